@@ -1,0 +1,26 @@
+-- What `stops` tells of the cut-off.
+use mathlib.Core.Bool.{Bool, not}
+use mathlib.Core.List.{List}
+use mathlib.Core.Path.{_≡_, ap, _∙_}
+use Prim.Native.Nat.{ℕ, pred, _+_, _-_, _<_}
+use native.Mathlib.Omega.{arith}
+use lib.ListN.{length}
+use Rattle.site.specs.Ratio.{Ratio, _over_, reaches}
+use Rattle.site.specs.Measure.{jaccard, inUse}
+use Rattle.site.specs.Site.{Site, Rising, Pair, codesOf, sizeOf}
+use Rattle.site.specs.Events.{Event, Occurs, ceilingAt, cutOf}
+use Rattle.entries.specs.Listed.{Listed, Proper, belowLast}
+use Rattle.entries.proofs.Listed.{listed-cut}
+
+module _ {site : Site} (R : Rising site) (e : Event) (o : Occurs site e) where
+  ceiling-is : (size : ℕ) → size ≡ sizeOf site (e .context) → (size - e .place + 1) over size ≡ ceilingAt inUse site e
+  unfolding jaccard
+  ceiling-is size q =
+      let l : size - e .place + 1 ≡ sizeOf site (e .context) - pred (e .place) = omega (arith, o .from-one, o .to-size) in
+      rw (l, q)
+
+  pub stop-told : {part list : List ℕ} {found k : ℕ} {r : Bool} → part ≡ codesOf site (e .context) → 0 < k → r ≡ belowLast list found k (length part - e .place + 1) (length part)
+      → (pairs : List Pair) → Proper site pairs → Listed site k pairs list found → r ≡ not (reaches (cutOf inUse site k pairs) (ceilingAt inUse site e))
+  stop-told {part} {list} {found} {k} p pos q pairs proper l =
+      let n : length part ≡ sizeOf site (e .context) = ap length p in
+      q ∙ listed-cut R l proper (length part - e .place + 1) (length part) (omega (arith, o .from-one, o .to-size)) pos ∙ ap (λ (c : Ratio). not (reaches (cutOf inUse site k pairs) c)) (ceiling-is (length part) n)

@@ -1,0 +1,4 @@
+pub mod Earliest
+pub mod Rules
+pub mod Checks
+pub mod Sound
