@@ -9,6 +9,7 @@ pub record Measure : Type 0 where
   pub ratio : ℕ → ℕ → ℕ → Ratio
   pub ceiling : ℕ → ℕ → Ratio
 
+-- what every theorem asks of a measure
 pub record Lawful (m : Measure) : Type 0 where
   -- the two contexts count alike
   pub even : (s a b : ℕ) → m .ratio s a b ≡ m .ratio s b a
