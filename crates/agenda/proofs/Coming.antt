@@ -10,7 +10,7 @@ use Rattle.site.specs.Events.{Event, Occurs, eventsOf}
 use Rattle.site.specs.Tables.{siteOf}
 use Rattle.site.specs.declared.Context.{Context}
 use Rattle.site.specs.declared.Place.{Place}
-use Rattle.trail.proofs.Meeting.{event-eq}
+use Rattle.site.proofs.Meeting.{event-eq}
 use Rattle.words.proofs.Lists.{getElem?-is, getElem?-none}
 use Rattle.words.proofs.Split.{by-le}
 use Rattle.tables.specs.Sound.{Sound}

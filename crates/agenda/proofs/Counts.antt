@@ -18,7 +18,7 @@ use Rattle.site.specs.Tables.{siteOf}
 use Rattle.site.proofs.Grid.{grid-length}
 use Rattle.site.proofs.Measures.{in-use-lawful}
 use Rattle.site.proofs.Contexts.{getD-in}
-use Rattle.trail.proofs.Events.{in-occurs}
+use Rattle.site.proofs.Events.{in-occurs}
 use Rattle.trail.proofs.Frontier.{Frontier, nextOf, bump, bump-at, bump-other, frontier-start, frontier-step, frontier-same, head-next}
 use Rattle.words.proofs.Split.{by-eq}
 use Rattle.tables.specs.Sound.{Sound}

@@ -18,7 +18,7 @@ use Rattle.site.specs.Events.{Event, ceilingAt, eventBefore, eventsOf}
 use Rattle.site.specs.Tables.{siteOf}
 use Rattle.site.proofs.Measures.{in-use-lawful}
 use Rattle.site.proofs.Ratios.{below-cross}
-use Rattle.trail.proofs.Events.{event-ranks, ceiling-before}
+use Rattle.site.proofs.Events.{event-ranks, ceiling-before}
 use Rattle.trail.proofs.Frontier.{nextOf, frontier-next, frontier-end}
 use Rattle.words.proofs.Lists.{getElem?-is, getElem?-none}
 use Rattle.words.proofs.Split.{by-eq, by-le}

@@ -21,8 +21,8 @@ use Rattle.site.specs.Site.{Site, Rising, Pair, Shares, sharedOf, unionOf, unio
 use Rattle.site.specs.Events.{cutOf}
 use Rattle.site.proofs.Ratios.{below-cross}
 use Rattle.site.proofs.Contexts.{first-bound, shared-le, getD-in}
-use Rattle.trail.proofs.Pairs.{ranked-same}
-use Rattle.trail.proofs.Top.{top-add, top-length}
+use Rattle.site.proofs.Pairs.{ranked-same}
+use Rattle.site.proofs.Top.{top-add, top-length}
 use Rattle.words.specs.Words.{flat, padded}
 use Rattle.words.proofs.Words.{flat-length, padded-over, padded-none, held as held-so}
 use Rattle.words.proofs.Split.{by-le}
