@@ -28,7 +28,7 @@ trials() {
 }
 
 oracle() {
-    (cd tests && CARGO_TARGET_DIR=../target/trials SAZAMKHRI_LIB="$PWD/../target/staticlib" cargo test --release --quiet --offline)
+    (cd tests && CARGO_TARGET_DIR=../target/trials SAZAMKHRI_LIB="$PWD/../target/staticlib" cargo test --release --quiet --offline --no-default-features)
 }
 
 # Each stored sheet gives its stored listing.

@@ -1,0 +1,453 @@
+//! Cases with a name: the paper's examples and limits, and the worked examples of the decisions. Each states its
+//! outcome in full, written down by hand, so that the brute-force paper is itself under trial here.
+
+use crate::paper::{self, After, Answer, Rooms};
+use crate::random::tables;
+use crate::sheet;
+
+/// A join by name. After an acceptance the list and the trail hold exactly these words, and zeros behind.
+pub struct JoinCase {
+    pub name: String,
+    pub k: u16,
+    pub offsets: Vec<u16>,
+    pub codes: Vec<u16>,
+    pub rooms: Rooms,
+    pub answer: Answer,
+    pub list: Vec<u16>,
+    pub trail: Vec<u16>,
+}
+
+impl JoinCase {
+    /// Whether the brute-force paper gives what the case states.
+    pub fn stated(&self) -> Result<(), String> {
+        let joined = paper::join(self.k, &self.offsets, &self.codes, self.rooms);
+        let state = |words: &[u16]| match self.answer[0] {
+            0 => After::Holds(words.to_vec()),
+            8 => After::Holds(Vec::new()),
+            _ => After::Unchanged,
+        };
+        let given = (joined.answer, joined.list, joined.trail, joined.work);
+        let owed = (self.answer, state(&self.list), state(&self.trail), state(&[]));
+        if given == owed {
+            Ok(())
+        } else {
+            Err(format!("'{}': {owed:?} is stated, {given:?} is found", self.name))
+        }
+    }
+}
+
+const AMPLE: Rooms = Rooms { list: 256, work: 10_240, trail: 4_096 };
+
+fn case(
+    name: &str,
+    k: u16,
+    offsets: &[u16],
+    codes: &[u16],
+    rooms: Rooms,
+    answer: Answer,
+    list: &[u16],
+    trail: &[u16],
+) -> JoinCase {
+    JoinCase {
+        name: name.to_string(),
+        k,
+        offsets: offsets.to_vec(),
+        codes: codes.to_vec(),
+        rooms,
+        answer,
+        list: list.to_vec(),
+        trail: trail.to_vec(),
+    }
+}
+
+fn site(name: &str, k: u16, contexts: &[&[u16]], answer: Answer, list: &[u16], trail: &[u16]) -> JoinCase {
+    let contexts: Vec<Vec<u16>> = contexts.iter().map(|context| context.to_vec()).collect();
+    let (offsets, codes) = tables(&contexts);
+    case(name, k, &offsets, &codes, AMPLE, answer, list, trail)
+}
+
+const THREE: &[&[u16]] = &[&[2, 3, 4, 5], &[1, 2, 3, 4, 5], &[1, 2, 3, 4]];
+
+/// P1 to P12.
+fn examples() -> Vec<JoinCase> {
+    vec![
+        site("P1", 1, &[&[1, 2, 3, 4], &[2, 3, 4, 5]], [0, 1, 4, 1], &[0, 1, 3, 5], &[0, 1]),
+        site("P2, two empty contexts", 1, &[&[], &[]], [0, 0, 0, 0], &[], &[]),
+        site("P2, {} and {7}", 1, &[&[], &[7]], [0, 0, 1, 0], &[], &[]),
+        site("P3", 1, &[&[7], &[7]], [0, 1, 2, 1], &[0, 1, 1, 1], &[0, 1]),
+        site("P4", 1, &[&[1, 2], &[2, 3]], [0, 1, 4, 1], &[0, 1, 1, 3], &[0, 1]),
+        site("P5", 1, THREE, [0, 1, 4, 2], &[0, 1, 4, 5], &[1, 2, 0, 1]),
+        site("P6", 2, THREE, [0, 2, 4, 2], &[0, 1, 4, 5, 1, 2, 4, 5], &[1, 2, 0, 1]),
+        site("P7", 3, THREE, [0, 3, 7, 3], &[0, 1, 4, 5, 1, 2, 4, 5, 0, 2, 3, 5], &[1, 2, 0, 1, 0, 2]),
+        site("P8", 4, THREE, [0, 3, 13, 3], &[0, 1, 4, 5, 1, 2, 4, 5, 0, 2, 3, 5], &[1, 2, 0, 1, 0, 2]),
+        site("P9", 1, &[], [0, 0, 0, 0], &[], &[]),
+        case("P10", 1, &[0, 2], &[5, 5], AMPLE, [5, 1, 0, 0], &[], &[]),
+        case("P11", 1, &[0, 1, 2], &[9, 3], AMPLE, [0, 0, 2, 0], &[], &[]),
+        case("P12", 0, &[], &[], AMPLE, [1, 0, 0, 0], &[], &[]),
+    ]
+}
+
+/// The limits that are run only, and their neighbours.
+fn limits() -> Vec<JoinCase> {
+    let three: Vec<Vec<u16>> = THREE.iter().map(|context| context.to_vec()).collect();
+    let (offsets, codes) = tables(&three);
+    let found = [0, 1, 4, 5, 1, 2, 4, 5, 0, 2, 3, 5];
+    let trail = [1, 2, 0, 1, 0, 2];
+    let rooms = |list, work, trail| Rooms { list, work, trail };
+    let p5 = |name: &str, rooms| case(name, 1, &offsets, &codes, rooms, [0, 1, 4, 2], &[0, 1, 4, 5], &[1, 2, 0, 1]);
+    let p5_refused = |name: &str, rooms, number| case(name, 1, &offsets, &codes, rooms, [number, 0, 0, 0], &[], &[]);
+    let all: Vec<u16> = (0..4096).collect();
+    let one_more: Vec<u16> = (0..4097).map(|i| i % 4096).collect();
+    vec![
+        case("k 64", 64, &offsets, &codes, AMPLE, [0, 3, 13, 3], &found, &trail),
+        case("k 65", 65, &offsets, &codes, rooms(260, 10_240, 4_096), [1, 0, 0, 0], &[], &[]),
+        site("code 4095", 1, &[&[4095], &[4095]], [0, 1, 2, 1], &[0, 1, 1, 1], &[0, 1]),
+        site("code 4096", 1, &[&[4095], &[4096]], [4, 1, 0, 0], &[], &[]),
+        case("256 contexts", 1, &[0; 257], &[], AMPLE, [0, 0, 0, 0], &[], &[]),
+        case("257 contexts", 1, &[0; 258], &[], AMPLE, [2, 0, 0, 0], &[], &[]),
+        case("4096 codes", 1, &[0, 4096], &all, AMPLE, [0, 0, 4096, 0], &[], &[]),
+        case("4097 codes", 1, &[0, 4096, 4097], &one_more, AMPLE, [2, 0, 0, 0], &[], &[]),
+        p5_refused("P5 with trail room for one pair", rooms(4, 10_240, 2), 8),
+        p5_refused("P5 with trail room for one pair and an odd word", rooms(4, 10_240, 3), 8),
+        p5("P5 with trail room for two pairs", rooms(4, 10_240, 4)),
+        p5("P5 with an odd word behind two pairs", rooms(4, 10_240, 5)),
+        p5_refused("P5 with no trail room", rooms(4, 10_240, 0), 8),
+        p5_refused("P5 with a list one word short", rooms(3, 10_240, 4), 6),
+        p5_refused("P5 with a work area one word short", rooms(4, 10_239, 4), 7),
+        p5_refused("P5 with all three rooms short", rooms(3, 10_239, 2), 6),
+        p5_refused("P5 with work area and trail short", rooms(4, 10_239, 2), 7),
+        p5("P5 with long buffers", rooms(1_000, 20_000, 70_001)),
+        // No pair is met, so that no trail room is enough.
+        case("P11 with no trail room", 1, &[0, 1, 2], &[9, 3], rooms(4, 10_240, 0), [0, 0, 2, 0], &[], &[]),
+        // The list must hold the k asked for, not the pairs found.
+        case(
+            "k 3 with no pair and list room for two",
+            3,
+            &[0, 1, 2],
+            &[9, 3],
+            rooms(11, 10_240, 0),
+            [6, 0, 0, 0],
+            &[],
+            &[],
+        ),
+    ]
+}
+
+/// Offsets and codes that are refused, by the decisions on places.
+fn refused_tables() -> Vec<JoinCase> {
+    let refused = |name: &str, offsets: &[u16], codes: &[u16], number, place| {
+        case(name, 1, offsets, codes, AMPLE, [number, place, 0, 0], &[], &[])
+    };
+    vec![
+        refused("no offsets", &[], &[], 2, 0),
+        refused("one offset, not 0", &[7], &[], 3, 0),
+        refused("one offset, with codes lent", &[0], &[1, 2], 3, 0),
+        refused("an offset beyond the codes in the middle", &[0, 9, 3], &[1, 2, 3], 3, 2),
+        refused("last offset above the codes length", &[0, 4], &[1, 2, 3], 3, 1),
+        refused("last offset below the codes length", &[0, 2], &[1, 2, 3], 3, 1),
+        refused("first offset not 0 and a fall", &[2, 1], &[1], 3, 0),
+        refused("an equal code before a code above 4095", &[0, 3], &[5, 5, 4096], 5, 1),
+        refused("a code above 4095 before an equal one", &[0, 3], &[4096, 4096, 3], 4, 0),
+        refused("a falling code in a second context", &[0, 2, 4], &[1, 2, 9, 8], 5, 3),
+        refused("offsets before codes", &[0, 1], &[4096, 4096], 3, 1),
+    ]
+}
+
+/// The slips that have been seen.
+fn slips() -> Vec<JoinCase> {
+    // 99/100 between 0 and 1; 100/101 between 2 and 3. Rounded to two decimals both are 0.99.
+    let hundred: Vec<u16> = (0..100).collect();
+    let ninety_nine: Vec<u16> = (1..100).collect();
+    let hundred_and_one: Vec<u16> = (200..301).collect();
+    let its_hundred: Vec<u16> = (201..301).collect();
+    let close: &[&[u16]] = &[&hundred, &ninety_nine, &hundred_and_one, &its_hundred];
+    vec![
+        // Cut-off 100/101: one event of each of 0, 1 and 3, and two of context 2.
+        site("99/100 against 100/101, k=1", 1, close, [0, 1, 5, 1], &[2, 3, 100, 101], &[2, 3]),
+        // Cut-off 99/100: two events of each of 0, 2 and 3, and one of context 1.
+        site("99/100 against 100/101, k=2", 2, close, [0, 2, 7, 2], &[2, 3, 100, 101, 0, 1, 99, 100], &[2, 3, 0, 1]),
+        // Three equal pairs and one place on the list: stopping at an equal ceiling would lose nothing here, but met
+        // counts all three.
+        site("three equal contexts, k=1", 1, &[&[7], &[7], &[7]], [0, 1, 3, 3], &[0, 1, 1, 1], &[0, 1, 0, 2, 1, 2]),
+        // Both pairs are equal. The list takes the smaller lower context first, the trail the pair that is met first.
+        site(
+            "a tie goes by the lower context",
+            1,
+            &[&[1], &[2], &[2], &[1]],
+            [0, 1, 4, 2],
+            &[0, 3, 1, 1],
+            &[1, 2, 0, 3],
+        ),
+        site(
+            "a tie then goes by the higher context",
+            2,
+            &[&[1], &[1], &[1]],
+            [0, 2, 3, 3],
+            &[0, 1, 1, 1, 0, 2, 1, 1],
+            &[0, 1, 0, 2, 1, 2],
+        ),
+        site(
+            "a pair with four shared codes is met once",
+            2,
+            &[&[1, 2, 3, 4], &[1, 2, 3, 4]],
+            [0, 1, 8, 1],
+            &[0, 1, 4, 4],
+            &[0, 1],
+        ),
+        site("k=64 and nothing shared", 64, &[&[1], &[2], &[3], &[]], [0, 0, 3, 0], &[], &[]),
+    ]
+}
+
+/// All joins by name.
+pub fn joins() -> Vec<JoinCase> {
+    [examples(), limits(), refused_tables(), slips()].into_iter().flatten().collect()
+}
+
+/// A sheet by name, with the lengths of the lent tables, and the reader's answer.
+pub struct ReadCase {
+    pub name: String,
+    pub sheet: Vec<u8>,
+    pub offsets: usize,
+    pub codes: usize,
+    pub answer: Answer,
+}
+
+impl ReadCase {
+    /// Whether the reader by definition gives what the case states.
+    pub fn stated(&self) -> Result<(), String> {
+        let given = sheet::reading(&self.sheet, self.offsets, self.codes).answer;
+        if given == self.answer {
+            Ok(())
+        } else {
+            Err(format!("'{}': {:?} is stated, {given:?} is found", self.name, self.answer))
+        }
+    }
+}
+
+/// A sheet of exactly `length` bytes, well-formed, with 256 contexts and 4096 codes in all: the first codes rise in
+/// four digits from 1000, the last have five digits.
+pub fn sheet_of_length(length: usize) -> Vec<u8> {
+    let longest = 17 + 256 * 3 + 3840 + 4096 * 5;
+    let short = longest - length;
+    assert!(short <= 4096, "a sheet of 256 contexts and 4096 codes is longer");
+    let mut text = String::from("k=1\ncontexts=256\n");
+    for context in 0..256 {
+        let code = |i: usize| {
+            let index = 16 * context + i;
+            if index < short {
+                1000 + i
+            } else {
+                10_000 + i
+            }
+        };
+        let words: Vec<String> = (0..16).map(|i| code(i).to_string()).collect();
+        text.push_str(&format!("c={}\n", words.join(" ")));
+    }
+    assert_eq!(text.len(), length);
+    text.into_bytes()
+}
+
+/// The worked examples of the decisions on refusals 9, 10 and 11.
+pub fn readings() -> Vec<ReadCase> {
+    let mut cases = Vec::new();
+    let mut lent = |name: &str, sheet: &[u8], offsets: usize, codes: usize, answer: Answer| {
+        cases.push(ReadCase { name: name.to_string(), sheet: sheet.to_vec(), offsets, codes, answer });
+    };
+    let no = |number, place| [number, place, 0, 0];
+    let yes = |k, contexts, codes| [0, k, contexts, codes];
+    let one_line = |line: &str| format!("k=1\ncontexts=1\n{line}").into_bytes();
+
+    lent("N1 contexts=300", b"k=1\ncontexts=300\n", 257, 4096, no(11, 13));
+    lent("N1 contexts=300, more lent", b"k=1\ncontexts=300\n", 400, 4096, no(11, 13));
+
+    lent("N2 k=65536x", b"k=65536x", 257, 4096, no(10, 2));
+    lent("N2 k=65536 and the end", b"k=65536", 257, 4096, no(10, 2));
+    lent("N2 k=65535x", b"k=65535x", 257, 4096, no(9, 7));
+    lent("N2 k=6553 and the end", b"k=6553", 257, 4096, no(9, 6));
+    lent("N2 contexts=257x", b"k=1\ncontexts=257x", 257, 4096, no(11, 13));
+    lent("N2 contexts=257 and the end", b"k=1\ncontexts=257", 257, 4096, no(11, 13));
+    lent("N2 contexts=1x, offsets 1", b"k=1\ncontexts=1x", 1, 4096, no(11, 13));
+    lent("N2 c=1 2x, codes 1", &one_line("c=1 2x"), 257, 1, no(11, 19));
+    lent("N2 c=1 65536x", &one_line("c=1 65536x"), 257, 4096, no(10, 19));
+
+    lent("N3 k=099999", b"k=099999\n", 257, 4096, no(9, 3));
+    lent("N3 contexts=0300", b"k=1\ncontexts=0300\n", 257, 4096, no(9, 14));
+    lent("N3 contexts=00, offsets 0", b"k=1\ncontexts=00\n", 0, 4096, no(11, 13));
+    lent("N3 c=1 07, codes 1", &one_line("c=1 07\n"), 257, 1, no(11, 19));
+    lent("N3 c=1 07, codes 2", &one_line("c=1 07\n"), 257, 2, no(9, 20));
+
+    let hundred_nines = [b"k=".as_slice(), &[b'9'; 100]].concat();
+    lent("N5 a hundred nines", &hundred_nines, 257, 4096, no(10, 2));
+    lent(
+        "N5 a hundred nines in a whole sheet",
+        &[&hundred_nines, b"\ncontexts=0\n".as_slice()].concat(),
+        257,
+        4096,
+        no(10, 2),
+    );
+    lent("N5 2^64 + 1", b"k=18446744073709551617", 257, 4096, no(10, 2));
+    lent("N5 2^64 + 1 in a whole sheet", b"k=18446744073709551617\ncontexts=0\n", 257, 4096, no(10, 2));
+    lent("N5 2^32 + 1", b"k=4294967297", 257, 4096, no(10, 2));
+    lent("N5 2^32 + 1 in a whole sheet", b"k=4294967297\ncontexts=0\n", 257, 4096, no(10, 2));
+    lent("N5 2^16 + 1 in a whole sheet", b"k=65537\ncontexts=0\n", 257, 4096, no(10, 2));
+    lent("N5 contexts 2^64", b"k=1\ncontexts=18446744073709551616\n", 257, 4096, no(10, 13));
+    lent("N5 a code of 2^64", &one_line("c=18446744073709551616\n"), 257, 4096, no(10, 17));
+
+    lent("N6 k=65535", b"k=65535\ncontexts=0\n", 257, 4096, yes(65_535, 0, 0));
+    lent("N6 k=65536", b"k=65536\ncontexts=0\n", 257, 4096, no(10, 2));
+    lent("N6 k=0", b"k=0\ncontexts=0\n", 257, 4096, yes(0, 0, 0));
+
+    lent("N7 contexts=65536", b"k=1\ncontexts=65536\n", 257, 4096, no(10, 13));
+    lent("N7 contexts=65535", b"k=1\ncontexts=65535\n", 257, 4096, no(11, 13));
+    lent("N7 c=1 65536, codes 1", &one_line("c=1 65536\n"), 257, 1, no(10, 19));
+    lent("N7 c=1 2 65536, codes 1", &one_line("c=1 2 65536\n"), 257, 1, no(11, 19));
+    lent("N7 c=65536 2, codes 1", &one_line("c=65536 2\n"), 257, 1, no(10, 17));
+
+    lent("N8 99999", b"99999", 257, 4096, no(9, 0));
+    lent("N8 99999 behind the last line", b"k=1\ncontexts=0\n99999\n", 257, 4096, no(9, 15));
+    lent("N8 x=99999", b"x=99999", 257, 4096, no(9, 0));
+
+    lent("N10 c=1 and a space, codes 1", &one_line("c=1 \n"), 257, 1, no(9, 19));
+    lent("N10 c=1, a space and the end, codes 1", &one_line("c=1 "), 257, 1, no(9, 19));
+    lent("N10 c=1 x, codes 1", &one_line("c=1 x"), 257, 1, no(9, 19));
+    lent("N10 c= alone, codes 0", &one_line("c=\n"), 257, 0, yes(1, 1, 0));
+
+    lent("N11 contexts=0, offsets 0", b"k=1\ncontexts=0\n", 0, 4096, no(11, 13));
+    lent("N11 contexts= and byte 10, offsets 0", b"k=1\ncontexts=\n", 0, 4096, no(9, 13));
+    lent("N11 contexts= and the end, offsets 0", b"k=1\ncontexts=", 0, 4096, no(9, 13));
+    lent("N11 k=x, offsets 0", b"k=x\ncontexts=0\n", 0, 4096, no(9, 2));
+    lent("N11 k=65536, offsets 0", b"k=65536\ncontexts=0\n", 0, 4096, no(10, 2));
+
+    lent("N12 too few lines", b"k=1\ncontexts=2\nc=\n", 257, 4096, no(9, 18));
+    lent("N12 too many lines", b"k=1\ncontexts=1\nc=\nc=1\n", 257, 4096, no(9, 18));
+    lent("N12 an empty line too many", b"k=1\ncontexts=0\n\n", 257, 4096, no(9, 15));
+
+    lent("N13 k=x and the end", b"k=x", 257, 4096, no(9, 2));
+    lent("N13 k=1 and the end", b"k=1", 257, 4096, no(9, 3));
+    lent("N13 c=1, a space and the end", &one_line("c=1 "), 257, 4096, no(9, 19));
+    lent("N13 c=1, a space and byte 10", &one_line("c=1 \n"), 257, 4096, no(9, 19));
+    lent("N13 con and the end", b"k=1\ncon", 257, 4096, no(9, 7));
+    lent("N13 con and byte 10", b"k=1\ncon\n", 257, 4096, no(9, 7));
+    lent("N13 a last line without byte 10", &one_line("c=1 2"), 257, 4096, no(9, 20));
+
+    lent("N14 CR", b"k=1\r\n", 257, 4096, no(9, 3));
+    lent("N14 CR in a whole sheet", b"k=1\r\ncontexts=0\r\n", 257, 4096, no(9, 3));
+    lent("N14 plus", b"k=+1", 257, 4096, no(9, 2));
+    lent("N14 minus", b"k=-1", 257, 4096, no(9, 2));
+    lent("N14 tab", &one_line("c=1\t2\n"), 257, 4096, no(9, 18));
+    lent("N14 byte order mark", b"\xEF\xBB\xBFk=1\ncontexts=0\n", 257, 4096, no(9, 0));
+    lent("N14 a byte above 127", b"k=1\ncontexts=\xB2\n", 257, 4096, no(9, 13));
+    lent("N14 NUL", b"k=1\ncontexts=0\n\0", 257, 4096, no(9, 15));
+
+    lent("N15 empty sheet", b"", 257, 4096, no(9, 0));
+    lent("N15 empty sheet, nothing lent", b"", 0, 0, no(9, 0));
+
+    let of_lines = |contexts: usize| format!("k=1\ncontexts={contexts}\n{}", "c=\n".repeat(contexts)).into_bytes();
+    lent("N16 256 contexts", &of_lines(256), 257, 4096, yes(1, 256, 0));
+    lent("N16 256 contexts, more lent", &of_lines(256), 300, 4100, yes(1, 256, 0));
+    lent("N16 256 contexts, one less lent", &of_lines(256), 256, 4096, no(11, 13));
+    lent("N16 257 contexts, more lent", &of_lines(257), 300, 5000, no(11, 13));
+    let of_codes = |codes: usize| one_line(&format!("c={}\n", vec!["7"; codes].join(" ")));
+    lent("N16 4096 codes", &of_codes(4096), 257, 4096, yes(1, 1, 4096));
+    lent("N16 4096 codes, more lent", &of_codes(4096), 257, 5000, yes(1, 1, 4096));
+    lent("N16 4097 codes", &of_codes(4097), 257, 4096, no(11, 17 + 2 * 4096));
+    lent("N16 4097 codes, more lent", &of_codes(4097), 257, 5000, no(11, 17 + 2 * 4096));
+
+    let longest = sheet_of_length(25_105);
+    lent("N17 25,105 bytes", &longest, 257, 4096, yes(1, 256, 4096));
+    let longest = [b"k=65535\n", &longest[4..]].concat();
+    assert_eq!(longest.len(), 25_109);
+    lent("N17 25,109 bytes", &longest, 257, 4096, yes(65_535, 256, 4096));
+
+    lent("N18 c=65535 4", &one_line("c=65535 4\n"), 257, 4096, yes(1, 1, 2));
+    cases
+}
+
+/// A sheet by name, for the program and the host call: what the program prints.
+pub struct ListingCase {
+    pub name: String,
+    pub sheet: Vec<u8>,
+    pub printed: String,
+}
+
+impl ListingCase {
+    /// Whether the listing by brute force is what the case states.
+    pub fn stated(&self) -> Result<(), String> {
+        let given = sheet::printed(&self.sheet);
+        if given == self.printed {
+            Ok(())
+        } else {
+            Err(format!("'{}': {:?} is stated, {given:?} is found", self.name, self.printed))
+        }
+    }
+}
+
+/// Contexts of one code each, in groups of these sizes: each group has its own code.
+pub fn groups(k: u16, sizes: &[usize]) -> Vec<u8> {
+    let mut lines = String::new();
+    for (code, &size) in sizes.iter().enumerate() {
+        lines.push_str(&format!("c={code}\n").repeat(size));
+    }
+    format!("k={k}\ncontexts={}\n{lines}", sizes.iter().sum::<usize>()).into_bytes()
+}
+
+pub fn listings() -> Vec<ListingCase> {
+    let mut cases = Vec::new();
+    let mut case = |name: &str, sheet: &[u8], printed: &str| {
+        cases.push(ListingCase { name: name.to_string(), sheet: sheet.to_vec(), printed: printed.to_string() });
+    };
+    let three = |k: u16| format!("k={k}\ncontexts=3\nc=2 3 4 5\nc=1 2 3 4 5\nc=1 2 3 4\n").into_bytes();
+    case("Three", &three(1), "k=1\nfound=1\nevents=4\nmet=2\npair=0 1 4 5\n");
+    case("Three, k=2", &three(2), "k=2\nfound=2\nevents=4\nmet=2\npair=0 1 4 5\npair=1 2 4 5\n");
+    case("Three, k=3", &three(3), "k=3\nfound=3\nevents=7\nmet=3\npair=0 1 4 5\npair=1 2 4 5\npair=0 2 3 5\n");
+    case("Three, k=4", &three(4), "k=4\nfound=3\nevents=13\nmet=3\npair=0 1 4 5\npair=1 2 4 5\npair=0 2 3 5\n");
+    case("Three, k=0", &three(0), "refused=1 0\n");
+    case("Three, k=64", &three(64), "k=64\nfound=3\nevents=13\nmet=3\npair=0 1 4 5\npair=1 2 4 5\npair=0 2 3 5\n");
+    case("Three, k=65", &three(65), "refused=1 0\n");
+    case("no contexts", b"k=1\ncontexts=0\n", "k=1\nfound=0\nevents=0\nmet=0\n");
+    case("P11", b"k=1\ncontexts=2\nc=9\nc=3\n", "k=1\nfound=0\nevents=2\nmet=0\n");
+    case("P10", b"k=1\ncontexts=1\nc=5 5\n", "refused=5 1\n");
+    case("refused=5 7", b"k=1\ncontexts=1\nc=1 2 3 4 5 6 7 7\n", "refused=5 7\n");
+    case("code 4095", b"k=1\ncontexts=1\nc=4095\n", "k=1\nfound=0\nevents=1\nmet=0\n");
+    case("code 4096", b"k=1\ncontexts=1\nc=4095 4096\n", "refused=4 1\n");
+    case("empty input", b"", "refused=9 0\n");
+    case("k=65536", b"k=65536\ncontexts=0\n", "refused=10 2\n");
+    case("257 contexts", b"k=1\ncontexts=257\n", "refused=11 13\n");
+    case("24,576 bytes of x", &[b'x'; 24_576], "refused=9 0\n");
+    case("24,577 bytes of x", &[b'x'; 24_577], "refused=11 24576\n");
+    case("100,000 bytes of x", &[b'x'; 100_000], "refused=11 24576\n");
+    case("a sheet of 24,576 bytes", &sheet_of_length(24_576), "refused=4 529\n");
+    case("a sheet of 24,577 bytes", &sheet_of_length(24_577), "refused=11 24576\n");
+    // 2016 pairs, and 28 + 3 + 1 make 2048: all meet at the first event.
+    let pairs: String = (1..64).map(|i| format!("pair=0 {i} 1 1\n")).chain(["pair=1 2 1 1\n".to_string()]).collect();
+    case("2048 pairs met", &groups(64, &[64, 8, 3, 2]), &format!("k=64\nfound=64\nevents=77\nmet=2048\n{pairs}"));
+    case("2049 pairs met", &groups(64, &[64, 8, 3, 2, 2]), "refused=8 0\n");
+    case("2080 pairs met", &groups(1, &[65]), "refused=8 0\n");
+    cases
+}
+
+#[cfg(test)]
+mod tests {
+    use super::*;
+
+    #[test]
+    fn the_paper_by_brute_force_gives_every_named_join() {
+        for case in joins() {
+            case.stated().unwrap();
+        }
+    }
+
+    #[test]
+    fn the_reader_by_definition_gives_every_named_reading() {
+        for case in readings() {
+            case.stated().unwrap();
+        }
+    }
+
+    #[test]
+    fn the_listing_gives_every_named_listing() {
+        for case in listings() {
+            case.stated().unwrap();
+        }
+    }
+}

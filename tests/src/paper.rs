@@ -1,0 +1,323 @@
+//! The paper, by brute force: every pair is looked at, every claim about a pair is counted out from its
+//! definition, and the order is made by sorting. There is no event loop here, no index and no cut-off.
+
+use std::cmp::Ordering;
+
+/// A refusal: its number and its place.
+#[derive(Clone, Copy, Debug, PartialEq, Eq, PartialOrd, Ord)]
+pub struct Refusal {
+    pub number: u64,
+    pub place: u64,
+}
+
+pub fn refuse(number: u64, place: usize) -> Refusal {
+    Refusal { number, place: place as u64 }
+}
+
+/// A fraction. The part below the line is never 0.
+#[derive(Clone, Copy, Debug)]
+pub struct Ratio {
+    pub top: u64,
+    pub bottom: u64,
+}
+
+impl Ratio {
+    /// Fractions are compared by their cross products.
+    pub fn order(self, other: Ratio) -> Ordering {
+        (u128::from(self.top) * u128::from(other.bottom)).cmp(&(u128::from(other.top) * u128::from(self.bottom)))
+    }
+
+    pub fn at_least(self, other: Ratio) -> bool {
+        self.order(other) != Ordering::Less
+    }
+}
+
+/// An event: one place of one context, known by its ceiling, which no other place of the context has.
+#[derive(Clone, Copy, Debug)]
+pub struct Event {
+    pub context: usize,
+    pub ceiling: Ratio,
+}
+
+impl Event {
+    /// The event at this place of the context. Places count from 1.
+    pub fn new(contexts: &[&[u16]], context: usize, place: usize) -> Event {
+        let size = contexts[context].len();
+        assert!(1 <= place && place <= size, "no such place");
+        Event { context, ceiling: Ratio { top: (size - place + 1) as u64, bottom: size as u64 } }
+    }
+
+    /// Events go by falling ceiling, then rising context number.
+    pub fn order(&self, other: &Event) -> Ordering {
+        other.ceiling.order(self.ceiling).then(self.context.cmp(&other.context))
+    }
+}
+
+/// A pair of two different contexts that share a code.
+#[derive(Clone, Copy, Debug)]
+pub struct Pair {
+    pub lower: usize,
+    pub higher: usize,
+    pub shared: usize,
+    pub union: usize,
+    /// The two events at the pair's first shared code, in the order of events.
+    pub earlier: Event,
+    pub later: Event,
+}
+
+impl Pair {
+    pub fn similarity(&self) -> Ratio {
+        Ratio { top: self.shared as u64, bottom: self.union as u64 }
+    }
+
+    /// The lower of the two ceilings at the first shared code.
+    pub fn ceiling(&self) -> Ratio {
+        let (one, other) = (self.earlier.ceiling, self.later.ceiling);
+        if one.order(other) == Ordering::Less {
+            one
+        } else {
+            other
+        }
+    }
+
+    /// Greater similarity first, then the smaller lower context, then the smaller higher one.
+    pub fn rank(&self, other: &Pair) -> Ordering {
+        other
+            .similarity()
+            .order(self.similarity())
+            .then(self.lower.cmp(&other.lower))
+            .then(self.higher.cmp(&other.higher))
+    }
+
+    /// The trail goes by the later event, then by the earlier one.
+    pub fn on_trail(&self, other: &Pair) -> Ordering {
+        self.later.order(&other.later).then(self.earlier.order(&other.earlier))
+    }
+}
+
+/// Refusals 1 to 5, in their order: what the join and the writer both ask of the tables.
+pub fn judge(k: u16, offsets: &[u16], codes: &[u16]) -> Result<(), Refusal> {
+    if k == 0 || k > 64 {
+        return Err(refuse(1, 0));
+    }
+    if offsets.is_empty() || offsets.len() > 257 || codes.len() > 4096 {
+        return Err(refuse(2, 0));
+    }
+    // Every offset index that is wrong in one way or another; the earliest counts.
+    let mut wrong: Vec<usize> = Vec::new();
+    if offsets[0] != 0 {
+        wrong.push(0);
+    }
+    if usize::from(offsets[offsets.len() - 1]) != codes.len() {
+        wrong.push(offsets.len() - 1);
+    }
+    wrong.extend((1..offsets.len()).filter(|&i| offsets[i] < offsets[i - 1]));
+    if let Some(&earliest) = wrong.iter().min() {
+        return Err(refuse(3, earliest));
+    }
+    // Every code that is wrong, with its index first; the earliest counts, and 4 before 5 at one index.
+    let mut faults: Vec<(usize, u64)> = Vec::new();
+    faults.extend((0..codes.len()).filter(|&i| codes[i] > 4095).map(|i| (i, 4)));
+    for ends in offsets.windows(2) {
+        let (from, to) = (usize::from(ends[0]), usize::from(ends[1]));
+        faults.extend((from..to).filter(|&i| i > from && codes[i] <= codes[i - 1]).map(|i| (i, 5)));
+    }
+    match faults.iter().min() {
+        Some(&(index, number)) => Err(refuse(number, index)),
+        None => Ok(()),
+    }
+}
+
+/// The contexts of sound tables.
+pub fn contexts<'a>(offsets: &[u16], codes: &'a [u16]) -> Vec<&'a [u16]> {
+    offsets.windows(2).map(|ends| &codes[usize::from(ends[0])..usize::from(ends[1])]).collect()
+}
+
+/// The pair of these two contexts, if they share a code.
+pub fn pair(contexts: &[&[u16]], lower: usize, higher: usize) -> Option<Pair> {
+    let (one, other) = (contexts[lower], contexts[higher]);
+    let common: Vec<u16> = one.iter().copied().filter(|code| other.contains(code)).collect();
+    let first = *common.iter().min()?;
+    let place_in = |context: &[u16]| 1 + context.iter().position(|&code| code == first).expect("it is shared");
+    let mut events = [Event::new(contexts, lower, place_in(one)), Event::new(contexts, higher, place_in(other))];
+    events.sort_by(Event::order);
+    let shared = common.len();
+    Some(Pair { lower, higher, shared, union: one.len() + other.len() - shared, earlier: events[0], later: events[1] })
+}
+
+/// What the paper says of a site: the list, the trail and the number of events.
+pub struct Findings {
+    pub list: Vec<Pair>,
+    pub trail: Vec<Pair>,
+    pub events: usize,
+    /// How many pairs share a code at all.
+    pub sharing: usize,
+}
+
+/// The findings for contexts that have passed refusals 1 to 5.
+pub fn find(k: usize, contexts: &[&[u16]]) -> Findings {
+    let mut pairs: Vec<Pair> = Vec::new();
+    for lower in 0..contexts.len() {
+        for higher in lower + 1..contexts.len() {
+            pairs.extend(pair(contexts, lower, higher));
+        }
+    }
+    let sharing = pairs.len();
+    pairs.sort_by(Pair::rank);
+    let list: Vec<Pair> = pairs.iter().copied().take(k).collect();
+    // The similarity of the k-th listed pair, if k are found.
+    let least = if list.len() == k { Some(list[k - 1].similarity()) } else { None };
+    let reaches = |ceiling: Ratio| least.map_or(true, |least| ceiling.at_least(least));
+
+    let mut events = 0;
+    for (context, codes) in contexts.iter().enumerate() {
+        events += (1..=codes.len()).filter(|&place| reaches(Event::new(contexts, context, place).ceiling)).count();
+    }
+    let mut trail: Vec<Pair> = pairs.into_iter().filter(|pair| reaches(pair.ceiling())).collect();
+    trail.sort_by(Pair::on_trail);
+    assert!(list.len() <= trail.len(), "no pair is more similar than its ceiling");
+    Findings { list, trail, events, sharing }
+}
+
+/// The four words of an answer.
+pub type Answer = [u64; 4];
+
+pub fn refused(refusal: Refusal) -> Answer {
+    [refusal.number, refusal.place, 0, 0]
+}
+
+/// What has become of a lent buffer: nothing, or these words from its start and zeros to its end.
+#[derive(Clone, Debug, PartialEq, Eq)]
+pub enum After<T> {
+    Unchanged,
+    Holds(Vec<T>),
+}
+
+impl<T: Copy + Default> After<T> {
+    /// The whole buffer, given what it held before.
+    pub fn words(&self, before: &[T]) -> Vec<T> {
+        match self {
+            After::Unchanged => before.to_vec(),
+            After::Holds(words) => {
+                assert!(words.len() <= before.len(), "what fits is no longer than its buffer");
+                let mut whole = words.clone();
+                whole.resize(before.len(), T::default());
+                whole
+            }
+        }
+    }
+}
+
+/// The lengths of the three buffers lent to the join.
+#[derive(Clone, Copy, Debug, PartialEq, Eq)]
+pub struct Rooms {
+    pub list: usize,
+    pub work: usize,
+    pub trail: usize,
+}
+
+/// The whole outcome of a join.
+pub struct Joined {
+    pub answer: Answer,
+    pub list: After<u16>,
+    pub work: After<u16>,
+    pub trail: After<u16>,
+}
+
+impl Joined {
+    fn untouched(refusal: Refusal) -> Joined {
+        Joined { answer: refused(refusal), list: After::Unchanged, work: After::Unchanged, trail: After::Unchanged }
+    }
+}
+
+fn word(number: usize) -> u16 {
+    u16::try_from(number).expect("all counts of a site fit a table word")
+}
+
+/// The words of the list: lower, higher, shared, union for each entry.
+pub fn list_words(list: &[Pair]) -> Vec<u16> {
+    list.iter().flat_map(|p| [word(p.lower), word(p.higher), word(p.shared), word(p.union)]).collect()
+}
+
+/// The words of the trail: lower, higher for each pair.
+pub fn trail_words(trail: &[Pair]) -> Vec<u16> {
+    trail.iter().flat_map(|p| [word(p.lower), word(p.higher)]).collect()
+}
+
+/// The join, with refusals 1 to 8 in their order.
+pub fn join(k: u16, offsets: &[u16], codes: &[u16], rooms: Rooms) -> Joined {
+    if let Err(refusal) = judge(k, offsets, codes) {
+        return Joined::untouched(refusal);
+    }
+    if rooms.list < 4 * usize::from(k) {
+        return Joined::untouched(refuse(6, 0));
+    }
+    if rooms.work < 10_240 {
+        return Joined::untouched(refuse(7, 0));
+    }
+    let findings = find(usize::from(k), &contexts(offsets, codes));
+    // An odd last word is no room.
+    if findings.trail.len() > rooms.trail / 2 {
+        let zeroed = || After::Holds(Vec::new());
+        return Joined { answer: refused(refuse(8, 0)), list: zeroed(), work: zeroed(), trail: zeroed() };
+    }
+    Joined {
+        answer: [0, findings.list.len() as u64, findings.events as u64, findings.trail.len() as u64],
+        list: After::Holds(list_words(&findings.list)),
+        work: After::Holds(Vec::new()),
+        trail: After::Holds(trail_words(&findings.trail)),
+    }
+}
+
+#[cfg(test)]
+mod tests {
+    use super::*;
+
+    fn both(one: &[u16], other: &[u16]) -> Option<Pair> {
+        pair(&[one, other], 0, 1)
+    }
+
+    fn fraction(ratio: Ratio) -> (u64, u64) {
+        (ratio.top, ratio.bottom)
+    }
+
+    #[test]
+    fn single_pairs_of_the_paper() {
+        let p1 = both(&[1, 2, 3, 4], &[2, 3, 4, 5]).unwrap();
+        assert_eq!((fraction(p1.similarity()), fraction(p1.ceiling())), ((3, 5), (3, 4)));
+        assert!(both(&[], &[]).is_none());
+        assert!(both(&[], &[7]).is_none());
+        let p3 = both(&[7], &[7]).unwrap();
+        assert_eq!((fraction(p3.similarity()), fraction(p3.ceiling())), ((1, 1), (1, 1)));
+        let p4 = both(&[1, 2], &[2, 3]).unwrap();
+        assert_eq!((fraction(p4.similarity()), fraction(p4.ceiling())), ((1, 3), (1, 2)));
+    }
+
+    #[test]
+    fn close_fractions_differ() {
+        let (one, other) = (Ratio { top: 99, bottom: 100 }, Ratio { top: 100, bottom: 101 });
+        assert_eq!(one.order(other), Ordering::Less);
+        assert!(other.at_least(one) && !one.at_least(other));
+        assert_eq!(Ratio { top: 2, bottom: 4 }.order(Ratio { top: 3, bottom: 6 }), Ordering::Equal);
+    }
+
+    #[test]
+    fn offsets_are_judged_by_the_earliest_wrong_index() {
+        let place = |offsets: &[u16], codes: &[u16]| judge(1, offsets, codes);
+        assert_eq!(place(&[7], &[]), Err(refuse(3, 0)));
+        assert_eq!(place(&[0], &[1]), Err(refuse(3, 0)));
+        assert_eq!(place(&[0, 9, 3], &[1, 2, 3]), Err(refuse(3, 2)));
+        assert_eq!(place(&[0, 2, 1, 3], &[1, 2, 3]), Err(refuse(3, 2)));
+        assert_eq!(place(&[0, 2, 2], &[1, 2, 3]), Err(refuse(3, 2)));
+        assert_eq!(place(&[1, 0], &[]), Err(refuse(3, 0)));
+        assert_eq!(place(&[0, 0], &[]), Ok(()));
+    }
+
+    #[test]
+    fn codes_are_judged_by_the_earliest_wrong_index() {
+        assert_eq!(judge(1, &[0, 3], &[1, 4096, 4096]), Err(refuse(4, 1)));
+        assert_eq!(judge(1, &[0, 3], &[5, 5, 4096]), Err(refuse(5, 1)));
+        assert_eq!(judge(1, &[0, 1, 2], &[9, 3]), Ok(()));
+        assert_eq!(judge(1, &[0, 1, 1, 2], &[9, 9]), Ok(()));
+    }
+}
