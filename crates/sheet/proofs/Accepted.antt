@@ -26,7 +26,7 @@ codes-fit most used at (w ∷ ws) {cs} h e =
     let r = codes-fit most (suc used) (at + length w + 1) ws (room-left most used _ (s .fits)) (b .1) in
     rw (← f) ((s .few, r .0), omega (arith, r .1))
 
-context-fit : (most used at : ℕ) (l : List ℕ) {cs : List ℕ} → used ≤ most → contextOf most used at l ≡ value cs → Words cs × (used + length cs ≤ most)
+pub context-fit : (most used at : ℕ) (l : List ℕ) {cs : List ℕ} → used ≤ most → contextOf most used at l ≡ value cs → Words cs × (used + length cs ≤ most)
 unfolding contextOf
 context-fit most used at [] {cs} h e = let f : [] ≡ cs = cc in rw (← f) (tt, omega arith)
 context-fit most used at (b ∷ l) h e = codes-fit most used at (split 32 (b ∷ l)) h e
@@ -44,7 +44,7 @@ lines-fit most (suc n) used at ls {site} h e =
     let g = lines-fit most n (used + length (c .0 .got)) (c .0 .next) (c .0 .lines) (f .1) (r .1) in
     rw (← s) ((f .0, g .0), rw length-append (omega (arith, g .1)))
 
-number-fits : (key : List ℕ) (room at : ℕ) (ls : List (List ℕ)) {x : Line ℕ} → line (behind key (numberOf room)) at ls ≡ value x → Small room (x .got)
+pub number-fits : (key : List ℕ) (room at : ℕ) (ls : List (List ℕ)) {x : Line ℕ} → line (behind key (numberOf room)) at ls ≡ value x → Small room (x .got)
 number-fits key room at ls e = let w = line-written (behind key (numberOf room)) at ls e in behind-small room key at (w .0) (w .1)
 
 pub read-fits : (offsets codes : ℕ) (s : List ℕ) {x : Sheet} → readSheet offsets codes s ≡ value x → Fits offsets codes (x .k) (x .site)

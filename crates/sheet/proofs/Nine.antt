@@ -1,4 +1,4 @@
--- What refusal 9's place means: no well-formed sheet begins with the bytes up to and with it; and no text of a sheet is ever refused with 9.
+-- A well-formed sheet, whatever its sizes, is read or refused with 10 or 11: never with 9.
 use mathlib.Core.Path.{_≡_, ap, _∙_}
 use mathlib.Core.List.{List, [], _∷_, _++_, map, append-assoc}
 use Prim.Native.Nat.{ℕ, suc, _+_, min}
@@ -10,7 +10,7 @@ use Rattle.words.proofs.Split.{by-le}
 use Rattle.sheet.specs.Read.{Read, value, refused, _then_}
 use Rattle.sheet.specs.Number.{digitsOf, numberOf}
 use Rattle.sheet.specs.Pieces.{split}
-use Rattle.sheet.specs.Text.{kKey, contextsKey, cKey, codesText, contextText, linesText, numberText, sheetText}
+use Rattle.sheet.specs.Text.{kKey, contextsKey, cKey, codesText, lineText, linesText, sheetText}
 use Rattle.sheet.specs.Reading.{behind, roomAfter, codesOf, contextOf, line, nothing, linesOf, readSheet}
 use Rattle.sheet.proofs.Pieces.{split-some}
 use Rattle.sheet.proofs.Numerals.{good, in-digits}
@@ -58,7 +58,7 @@ unfolding line
 line-judged read at l t j = let m = split-some 10 t in rw (m .2) (judged-then _ j well)
 
 lines-judged : (most used at : ℕ) (site : List (List ℕ)) → Judged site (linesOf most (length site) used at (split 10 (linesText site)))
-unfolding linesOf linesText contextText nothing split
+unfolding linesOf linesText lineText nothing split
 lines-judged most used at [] = well
 lines-judged most used at (c ∷ site) =
     let l = cKey ++ codesText c in
@@ -70,7 +70,7 @@ lines-judged most used at (c ∷ site) =
 
 -- a well-formed sheet is read, or refused with 10 or 11: never with 9
 pub text-judged : (offsets codes k : ℕ) (site : List (List ℕ)) → Judged (record { k = k; site = site }) (readSheet offsets codes (sheetText k site))
-unfolding readSheet sheetText numberText
+unfolding readSheet sheetText lineText codesText
 text-judged offsets codes k site =
     let a = kKey ++ digitsOf k in
     let b = contextsKey ++ digitsOf (length site) in

@@ -7,7 +7,7 @@ use native.Mathlib.Nat.{le-refl, le-trans, not-suc-le-zero, le-of-suc-le-suc}
 use native.Mathlib.Omega.{arith}
 use borrow.Author.Tests.{le-leb, lt-leb, eq-eqb, ne-eqb}
 use lib.ListN.{length, getD, take, length-take}
-use lib.Seq.{take-take}
+use lib.Seq.{take-take, take-length}
 use Rattle.words.proofs.Split.{by-eq, by-le}
 use Rattle.sheet.specs.Number.{valueFrom, isDigit, digitRun, mostDigits, digitsIn}
 
@@ -66,3 +66,16 @@ unfolding digitsIn
 take-in w =
     let h : length (digitRun (take (mostDigits w) w)) ≤ mostDigits w = omega (arith, run-within (take (mostDigits w) w), length-take (mostDigits w) w) in
     sym (take-take (length (digitRun (take (mostDigits w) w))) (mostDigits w) w h) ∙ take-run (take (mostDigits w) w)
+
+pub in-none : digitsIn [] ≡ []
+unfolding digitsIn mostDigits digitRun
+in-none = refl
+
+-- a 0 stands alone, any other digit with those behind it
+pub in-zero : (w : List ℕ) → digitsIn (48 ∷ w) ≡ 48 ∷ []
+unfolding digitsIn mostDigits digitRun
+in-zero w = refl
+
+pub in-run : (b : ℕ) (w : List ℕ) → (b ≡ 48 → ⊥) → digitsIn (b ∷ w) ≡ digitRun (b ∷ w)
+unfolding digitsIn mostDigits
+in-run b w n = rw (ne-eqb b 48 n, take-length (b ∷ w))

@@ -6,7 +6,7 @@ use native.Mathlib.Nat.{not-suc-le-zero, le-refl, zero-add}
 use native.Mathlib.Omega.{arith}
 use borrow.Author.Tests.{lt-ltb, le-ltb, le-leb, eq-eqb, ne-eqb}
 use lib.ListN.{length, getD, take, length-append, length-take, List·getD-append}
-use lib.Seq.{take-length, take-all}
+use lib.Seq.{take-length, take-all, getD-take}
 use Rattle.words.proofs.Split.{by-eq, by-le}
 use Rattle.sheet.specs.Read.{value}
 use Rattle.sheet.specs.Number.{digitsOf, valueFrom, valueOf, digitRun, mostDigits, digitsIn, numberOf}
@@ -117,14 +117,13 @@ numeral (b ∷ bs) s d z =
     alone [] h o = o
     alone (x ∷ xs) h o = absurd (omega arith)
 
--- a piece that is all digits of its number
-whole : (w : List ℕ) → (length (digitsIn w) ≡ 0 → ⊥) → length w ≤ length (digitsIn w) → digitsOf (valueOf (digitsIn w)) ≡ w
+-- the digits that can stand in a number are those of the number that they say
+pub in-numeral : (w : List ℕ) → 0 < length (digitsIn w) → digitsOf (valueOf (digitsIn w)) ≡ digitsIn w
 unfolding digitsIn mostDigits
-whole w z h =
-    let i : digitsIn w ≡ w = sym (take-in w) ∙ take-all (length (digitsIn w)) w h in
-    let d : Digital w = rw i at (run-digital (take (mostDigits w) w)) in
-    let lead : getD w 0 0 ≡ 48 → length w ≡ 1 = λ q. omega (arith, run-within (take (mostDigits w) w), length-take (mostDigits w) w, one q) in
-    rw i (numeral w (λ y. z (rw (← i) at y)) d lead)
+in-numeral w h =
+    let front : getD (digitsIn w) 0 0 ≡ getD w 0 0 = ap (λ (t : List ℕ). getD t 0 0) (sym (take-in w)) ∙ getD-take (length (digitsIn w)) w 0 0 h in
+    let lead : getD (digitsIn w) 0 0 ≡ 48 → length (digitsIn w) ≡ 1 = λ q. omega (arith, run-within (take (mostDigits w) w), length-take (mostDigits w) w, one (sym front ∙ q)) in
+    numeral (digitsIn w) (λ z. omega arith) (run-digital (take (mostDigits w) w)) lead
   where
     one : getD w 0 0 ≡ 48 → mostDigits w ≡ 1
     one q = rw (eq-eqb _ 48 q)
@@ -137,6 +136,6 @@ number-read room at w {v} e =
     by-le (valueOf (digitsIn w)) 65535 (λ f.
     by-le room (valueOf (digitsIn w)) (λ g. no-value (rw (ne-eqb _ _ z, le-ltb 65535 _ f, le-ltb _ room g) at e)) (λ g.
     by-le (length w) (length (digitsIn w))
-    (λ h. let u : valueOf (digitsIn w) ≡ v = cc (rw (ne-eqb _ _ z, le-ltb 65535 _ f, lt-ltb _ room g, le-ltb _ _ h) at e) in sym (rw (← u) (whole w z h)))
+    (λ h. let u : valueOf (digitsIn w) ≡ v = cc (rw (ne-eqb _ _ z, le-ltb 65535 _ f, lt-ltb _ room g, le-ltb _ _ h) at e) in sym (take-all (length (digitsIn w)) w h) ∙ take-in w ∙ sym (in-numeral w (omega arith)) ∙ ap digitsOf u)
     (λ h. no-value (rw (ne-eqb _ _ z, le-ltb 65535 _ f, lt-ltb _ room g, lt-ltb _ _ h) at e))))
     (λ f. no-value (rw (ne-eqb _ _ z, lt-ltb 65535 _ f) at e)))

@@ -9,9 +9,10 @@ use lib.ListN.{length, length-append}
 use Rattle.sheet.specs.Read.{Read, value}
 use Rattle.sheet.specs.Number.{digitsOf, numberOf}
 use Rattle.sheet.specs.Pieces.{split, onFirst}
-use Rattle.sheet.specs.Text.{kKey, contextsKey, cKey, codesText, contextText, linesText, numberText, sheetText}
+use Rattle.sheet.specs.Text.{kKey, contextsKey, cKey, codesText, lineText, linesText, sheetText}
 use Rattle.sheet.specs.Reading.{behind, roomAfter, codesOf, contextOf, line, nothing, linesOf, readSheet}
 use Rattle.site.specs.Tables.{allCodes}
+pub use Rattle.sheet.specs.Fits.{Words, SiteWords, Fits}
 use Rattle.sheet.proofs.Pieces.{split-some}
 use Rattle.sheet.proofs.Numerals.{Digital, good, number-digits}
 
@@ -41,15 +42,6 @@ unfolding split onFirst
 split-cut b [] t f = rw (eq-eqb b b refl)
 split-cut b (x ∷ l) t f = rw (ne-eqb x b (f .0), split-cut b l t (f .1))
 
--- codes that fit 16 bits
-abbrev pub Words : List ℕ → Type 0
-Words [] = Unit {0}
-Words (n ∷ ns) = (n ≤ 65535) × Words ns
-
-abbrev pub SiteWords : List (List ℕ) → Type 0
-SiteWords [] = Unit {0}
-SiteWords (c ∷ site) = Words c × SiteWords site
-
 pub words-of : (n : ℕ) (ns : List ℕ) → split 32 (codesText (n ∷ ns)) ≡ map digitsOf (n ∷ ns)
 unfolding codesText
 words-of n [] = split-free 32 (digitsOf n) (digits-free 32 n (omega arith))
@@ -73,7 +65,7 @@ unfolding codesText
 codes-length n [] = good n .some
 codes-length n (m ∷ ns) = rw length-append (omega (arith, good n .some))
 
-context-read : (most used at : ℕ) (cs : List ℕ) → Words cs → used + length cs ≤ most → contextOf most used at (codesText cs) ≡ value cs
+pub context-read : (most used at : ℕ) (cs : List ℕ) → Words cs → used + length cs ≤ most → contextOf most used at (codesText cs) ≡ value cs
 unfolding contextOf codesText
 context-read most used at [] w h = refl
 context-read most used at (n ∷ ns) w h = context-some most used at (codesText (n ∷ ns)) (codes-length n ns) ∙ rw (words-of n ns) (codes-read most used at (n ∷ ns) w h)
@@ -90,7 +82,7 @@ behind-key [] read at l = rw add-zero
 behind-key (x ∷ key) read at l = let e : suc at + length key ≡ at + suc (length key) = omega arith in rw (eq-eqb x x refl, ← e) (behind-key key read (suc at) l)
 
 -- a line that is read, with more behind its byte 10
-line-first : {A : Type 0} (read : ℕ → List ℕ → Read A) (at : ℕ) (l t : List ℕ) {v : A} → read at l ≡ value v
+pub line-first : {A : Type 0} (read : ℕ → List ℕ → Read A) (at : ℕ) (l t : List ℕ) {v : A} → read at l ≡ value v
     → line read at (l ∷ split 10 t) ≡ value (record { got = v; next = at + length l + 1; lines = split 10 t })
 unfolding line
 line-first read at l t e = let m = split-some 10 t in rw (m .2, e)
@@ -100,7 +92,7 @@ cut-line l t f = ap (split 10) (append-assoc l (10 ∷ []) t) ∙ split-cut 10 l
 
 lines-read : (most used at : ℕ) (site : List (List ℕ)) → SiteWords site → used + length (allCodes site) ≤ most
     → linesOf most (length site) used at (split 10 (linesText site)) ≡ value site
-unfolding linesOf linesText contextText nothing split allCodes
+unfolding linesOf linesText lineText nothing split allCodes
 lines-read most used at [] w h = refl
 lines-read most used at (c ∷ site) w h =
     let k = rw length-append at h in
@@ -112,15 +104,8 @@ lines-read most used at (c ∷ site) w h =
 pub free-key : Free 10 contextsKey
 free-key = (λ e. omega arith, (λ e. omega arith, (λ e. omega arith, (λ e. omega arith, (λ e. omega arith, (λ e. omega arith, (λ e. omega arith, (λ e. omega arith, (λ e. omega arith, tt)))))))))
 
--- the premise: everything fits its words and the lent tables
-pub record Fits (offsets codes k : ℕ) (site : List (List ℕ)) : Type 0 where
-  pub k-word : k ≤ 65535
-  pub words : SiteWords site
-  pub contexts : length site < min 257 offsets
-  pub room : length (allCodes site) ≤ min 4096 codes
-
 pub reads-back : {offsets codes k : ℕ} {site : List (List ℕ)} → Fits offsets codes k site → readSheet offsets codes (sheetText k site) ≡ value (record { k = k; site = site })
-unfolding readSheet sheetText numberText
+unfolding readSheet sheetText lineText codesText
 reads-back {offsets} {codes} {k} {site} F =
     let a = kKey ++ digitsOf k in
     let b = contextsKey ++ digitsOf (length site) in

@@ -8,7 +8,7 @@ use Rattle.words.proofs.Split.{by-eq}
 use Rattle.sheet.specs.Read.{Read, value}
 use Rattle.sheet.specs.Number.{digitsOf, numberOf}
 use Rattle.sheet.specs.Pieces.{split, onFirst}
-use Rattle.sheet.specs.Text.{kKey, contextsKey, cKey, codesText, contextText, linesText, numberText, sheetText}
+use Rattle.sheet.specs.Text.{kKey, contextsKey, cKey, codesText, lineText, linesText, numberText, sheetText}
 use Rattle.sheet.specs.Reading.{behind, roomAfter, codesOf, contextOf, Line, line, nothing, linesOf, Sheet, readSheet}
 use Rattle.sheet.proofs.Pieces.{split-some}
 use Rattle.sheet.proofs.Lines.{no-value, then-value, lines-count}
@@ -50,7 +50,7 @@ join-digits [] = refl
 join-digits (n ∷ []) = refl
 join-digits (n ∷ m ∷ ns) = ap (λ (l : List ℕ). digitsOf n ++ 32 ∷ l) (join-digits (m ∷ ns))
 
-context-written : (most used at : ℕ) (l : List ℕ) {cs : List ℕ} → contextOf most used at l ≡ value cs → l ≡ codesText cs
+pub context-written : (most used at : ℕ) (l : List ℕ) {cs : List ℕ} → contextOf most used at l ≡ value cs → l ≡ codesText cs
 unfolding contextOf codesText
 context-written most used at [] {cs} e = let f : [] ≡ cs = cc in rw (← f)
 context-written most used at (b ∷ l) {cs} e = sym (split-join 32 (b ∷ l)) ∙ ap (joined 32) (codes-written most used at (split 32 (b ∷ l)) e) ∙ join-digits cs
@@ -67,14 +67,14 @@ behind-read (x ∷ key) read at (b ∷ l) e =
 
 -- a line that was read, and what is behind it
 pub line-written : {A : Type 0} (read : ℕ → List ℕ → Read A) (at : ℕ) (ls : List (List ℕ)) {x : Line A} → line read at ls ≡ value x
-    → (l : List ℕ) × (read at l ≡ value (x .got)) × (joined 10 ls ≡ l ++ 10 ∷ joined 10 (x .lines))
+    → (l : List ℕ) × (read at l ≡ value (x .got)) × (joined 10 ls ≡ l ++ 10 ∷ joined 10 (x .lines)) × (x .next ≡ at + length l + 1)
 unfolding line joined
 line-written read at [] e = no-value e
 line-written read at (l ∷ []) e = no-value (then-value (read at l) _ e .2)
 line-written {A} read at (l ∷ m ∷ more) {x} e =
     let r = then-value (read at l) _ e in
     let q : _≡_ {A = Line A} (record { got = r .0; next = at + length l + 1; lines = m ∷ more }) x = cc (r .2) in
-    (l, r .1 ∙ ap (λ (y : Line A). value (y .got)) q, ap (λ (y : Line A). l ++ 10 ∷ joined 10 (y .lines)) q)
+    (l, r .1 ∙ ap (λ (y : Line A). value (y .got)) q, ap (λ (y : Line A). l ++ 10 ∷ joined 10 (y .lines)) q, ap (λ (y : Line A). y .next) (sym q))
 
 nothing-written : (at : ℕ) (ls : List (List ℕ)) {site : List (List ℕ)} → nothing at ls ≡ value site → joined 10 ls ≡ linesText site
 unfolding nothing joined linesText
@@ -84,7 +84,7 @@ nothing-written at ([] ∷ m ∷ more) e = no-value e
 nothing-written at ((b ∷ l) ∷ more) e = no-value e
 
 lines-written : (most n used at : ℕ) (ls : List (List ℕ)) {site : List (List ℕ)} → linesOf most n used at ls ≡ value site → joined 10 ls ≡ linesText site
-unfolding linesOf linesText contextText
+unfolding linesOf linesText lineText
 lines-written most zero used at ls e = nothing-written at ls e
 lines-written most (suc n) used at ls {site} e =
     let c = then-value (line (behind cKey (contextOf most used)) at ls) _ e in
@@ -95,8 +95,8 @@ lines-written most (suc n) used at ls {site} e =
     let t = context-written most used (k .0) (k .1) (k .3) in
     rw (← s) (w .2 ∙ rw (k .2, t, lines-written most n _ _ _ (r .1), append-assoc))
 
-number-written : (key : List ℕ) (room at : ℕ) (ls : List (List ℕ)) {x : Line ℕ} → line (behind key (numberOf room)) at ls ≡ value x → joined 10 ls ≡ numberText key (x .got) ++ joined 10 (x .lines)
-unfolding numberText
+pub number-written : (key : List ℕ) (room at : ℕ) (ls : List (List ℕ)) {x : Line ℕ} → line (behind key (numberOf room)) at ls ≡ value x → joined 10 ls ≡ numberText key (x .got) ++ joined 10 (x .lines)
+unfolding lineText codesText
 number-written key room at ls e =
     let w = line-written (behind key (numberOf room)) at ls e in
     let k = behind-read key (numberOf room) at (w .0) (w .1) in

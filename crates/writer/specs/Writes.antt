@@ -1,28 +1,24 @@
--- What a writer leaves at the front of the text that is lent to it, and the call's answer.
+-- What lines leave at the front of the text that is lent to them, and the call's answer.
 use mathlib.Core.Bool.{cond}
 use mathlib.Core.Path.{_≡_}
-use mathlib.Core.List.{List, [], _∷_, _++_}
+use mathlib.Core.List.{List, [], _++_}
 use Prim.Native.Nat.{ℕ, _+_, _≤_}
-use lib.Dec.{eqb, ltb}
+use lib.Dec.{ltb, leb}
 use lib.ListN.{length, take}
+use Rattle.words.specs.Words.{padded}
 use Rattle.tables.specs.declared.Check.{Check}
 use Rattle.tables.specs.declared.Check.the-variants as check
-use Rattle.sheet.specs.Number.{digitsOf}
-use Rattle.words.specs.Words.{padded}
+use Rattle.pen.specs.declared.Pen.{Pen}
 use Rattle.writer.specs.declared.Put.{Put}
 use Rattle.writer.specs.declared.Put.the-variants.{Done, Full}
 use Rattle.writer.specs.declared.Writing.{Writing}
 use Rattle.writer.specs.declared.Writing.the-variants.{Written, Refused}
 
--- bytes that fit are written at `at`; of the text behind them, and of a text that is too short, nothing is said
-pub record Added (bs : List ℕ) (at : ℕ) (old now : List ℕ) (r : Put) : Type 0 where
-  pub answer : r ≡ cond (ltb (length old) (at + length bs)) Full (Done (at + length bs))
+-- lines that fit are written behind the pen's place; of the text behind them, and of a text that is too short, nothing is said
+pub record Added (bs old now : List ℕ) (p : Pen) (r : Put) : Type 0 where
+  pub answer : r ≡ cond (leb (length bs) (p .room)) (Done (p .place + length bs)) Full
   pub long : length now ≡ length old
-  pub front : at + length bs ≤ length old → take (at + length bs) now ≡ take at old ++ bs
-
--- a code, with a space before it unless it is the first
-unfoldable pub codeText : ℕ → ℕ → List ℕ
-codeText i n = cond (eqb i 0) (digitsOf n) (32 ∷ digitsOf n)
+  pub front : length bs ≤ p .room → take (p .place + length bs) now ≡ take (p .place) old ++ bs
 
 -- the call: what the checks refuse; 12 at 0 if the text does not fit; its length
 unfoldable pub answerBy : Check → List ℕ → ℕ → Writing

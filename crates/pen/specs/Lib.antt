@@ -1,0 +1,4 @@
+-- pieces of a line, written one after the other
+pub mod Pieces
+-- a line, and the pen moved on behind it
+pub mod Lines

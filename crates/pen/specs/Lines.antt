@@ -1,0 +1,26 @@
+-- A line written into the rest of a text, and the pen moved on behind it.
+use mathlib.Core.Bool.{cond}
+use mathlib.Core.Path.{_≡_}
+use mathlib.Core.List.{List}
+use Prim.Native.Nat.{ℕ, _+_, _-_}
+use lib.Dec.{leb}
+use lib.ListN.{length}
+use Rattle.pen.specs.declared.Pen.{Pen}
+use Rattle.pen.specs.Pieces.{written}
+
+-- the pen's place and its room are those of the text
+abbrev pub Fits : Pen → List ℕ → Type 0
+Fits p text = p .place + p .room ≡ length text
+
+-- moved on by n bytes if there is room for them, else as it is
+unfoldable pub movedBy : Pen → ℕ → Pen
+movedBy p n = cond (leb n (p .room)) (record { place = p .place + n; room = p .room - n }) p
+
+-- the text with a line at the pen's place if there is room for it, else as it is
+unfoldable pub linedBy : Pen → List ℕ → List ℕ → List ℕ
+linedBy p bs text = cond (leb (length bs) (p .room)) (written text (p .place) bs) text
+
+-- what a line's bytes make of the text and of the pen
+pub record Lined (bs old now : List ℕ) (p q : Pen) : Type 0 where
+  pub pen : q ≡ movedBy p (length bs)
+  pub text : now ≡ linedBy p bs old

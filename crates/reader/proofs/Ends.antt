@@ -1,0 +1,67 @@
+-- A line's end: how the reading of a line's text becomes the reading of the line, for any kind of line.
+-- Rests on the sheet's laws of a first line.
+use mathlib.Core.Path.{_≡_, refl, sym, subst, _∙_}
+use mathlib.Core.List.{List}
+use Prim.Native.Nat.{ℕ, _+_, _≤_, _<_}
+use native.Mathlib.Omega.{arith}
+use borrow.Author.Tests.{lt-ltb, le-ltb}
+use lib.ListN.{length, drop, length-drop}
+use Rattle.words.proofs.Split.{by-le}
+use Rattle.sheet.specs.Read.{Read, value, refused}
+use Rattle.sheet.specs.Pieces.{split}
+use Rattle.sheet.specs.Reading.{Line, line}
+use Rattle.sheet.proofs.Pieces.{up-to-within}
+use Rattle.sheet.proofs.Lines.{no-value, line-refused, line-last, line-more}
+use Rattle.reader.specs.declared.Part.{Part}
+use Rattle.reader.specs.declared.Part.the-variants as part
+use Rattle.reader.specs.Parts.{partBy, lineBy, endedBy, lineAt}
+
+-- the ways of `line_end`
+module _ (end : ℕ) {l : Part} where
+  pub ended-refused : {n p : ℕ} → l ≡ part.Refused n p → l ≡ endedBy end l
+  unfolding endedBy
+  ended-refused e = rw e
+
+  module _ {v next : ℕ} (e : l ≡ part.Read v next) where
+    pub ended-none : end ≤ next → part.Refused 9 next ≡ endedBy end l
+    unfolding endedBy
+    ended-none h = rw (e, le-ltb next end h)
+
+    pub ended-next : next < end → part.Read v (next + 1) ≡ endedBy end l
+    unfolding endedBy
+    ended-next h = rw (e, lt-ltb next end h)
+
+-- a line that was read: its text, and what stands behind it
+pub record Placed {A : Type 0} (read : ℕ → List ℕ → Read A) (s : List ℕ) (at : ℕ) (l : Line A) : Type 0 where
+  pub text : read at (lineAt at s) ≡ value (l .got)
+  pub rest : l .lines ≡ split 10 (drop (l .next) s)
+  pub within : l .next ≤ length s
+
+module _ {A : Type 0} (read : ℕ → List ℕ → Read A) (s : List ℕ) (at : ℕ) (h : at ≤ length s) where
+  inside : at + length (lineAt at s) ≤ length s
+  inside = omega (arith, up-to-within 10 (drop at s), length-drop at s)
+
+  ended-by : (f : A → ℕ) (x : Read A) → read at (lineAt at s) ≡ x → endedBy (length s) (partBy f (at + length (lineAt at s)) x) ≡ lineBy f (line read at (split 10 (drop at s)))
+  unfolding endedBy partBy lineBy
+  ended-by f (refused n p) e = rw (line-refused read s at refl e inside)
+  ended-by f (value v) e =
+      by-le (length s) (at + length (lineAt at s))
+      (λ g. rw (le-ltb (at + length (lineAt at s)) (length s) g, line-last read s at refl e (omega (arith, inside))))
+      (λ g. rw (lt-ltb (at + length (lineAt at s)) (length s) g, line-more read s at refl e g))
+
+  -- the line's text, read and stepped over, is the line read
+  pub line-ended : (f : A → ℕ) {l : List ℕ} → l ≡ lineAt at s → {r z : Part} → r ≡ partBy f (at + length l) (read at l) → z ≡ endedBy (length s) r → z ≡ lineBy f (line read at (split 10 (drop at s)))
+  line-ended f q e g = g ∙ rw (e, q) (ended-by f (read at (lineAt at s)) refl)
+
+  same-line : {l m : Line A} → value l ≡ value m → Placed read s at l → Placed read s at m
+  same-line {l} {m} e p = let q : l ≡ m = cc in subst (Placed read s at) q p
+
+  placed-by : (x : Read A) → read at (lineAt at s) ≡ x → {l : Line A} → line read at (split 10 (drop at s)) ≡ value l → Placed read s at l
+  placed-by (refused n p) e g = no-value (sym (line-refused read s at refl e inside) ∙ g)
+  placed-by (value v) e g =
+      by-le (length s) (at + length (lineAt at s))
+      (λ i. no-value (sym (line-last read s at refl e (omega (arith, inside))) ∙ g))
+      (λ i. same-line (sym (line-more read s at refl e i) ∙ g) (record { text = e; rest = refl; within = omega arith }))
+
+  pub line-placed : {l : Line A} → line read at (split 10 (drop at s)) ≡ value l → Placed read s at l
+  line-placed g = placed-by (read at (lineAt at s)) refl g

@@ -1,0 +1,56 @@
+-- The zeros behind the data: what the call leaves of the tables that the sheet was read into.
+-- The answer tells how many words hold data, and there the zeroing begins.
+use mathlib.Core.Path.{_≡_, refl, sym, _∙_}
+use mathlib.Core.List.{List, _++_}
+use Prim.Native.Nat.{ℕ, _-_, _≤_}
+use native.Mathlib.Omega.{arith}
+use lib.ListN.{length, take, replicate}
+use Rattle.words.specs.Words.{padded}
+use Rattle.sheet.specs.Read.{Read, value, refused}
+use Rattle.sheet.specs.Reading.{Sheet, readSheet}
+use Rattle.sheet.proofs.Tables.{offsets-length, front-fits}
+use Rattle.reader.specs.declared.Reading.{Reading}
+use Rattle.reader.specs.Answers.{answerOf, offsetsBy, codesBy}
+use Rattle.reader.specs.Fronts.{Taken, offsetsUsed, codesUsed}
+use Rattle.reader.specs.Calls.{Reads}
+
+-- a front that is kept, and zeros behind it
+refilled : (now : List ℕ) {out ws : List ℕ} {n k : ℕ} → take (length ws) now ≡ ws → k ≡ length ws → length now ≡ n → out ≡ take k now ++ replicate (length now - k) 0 → out ≡ padded n ws
+unfolding padded
+refilled now f e l o = o ∙ rw (e, f, l)
+
+-- the answer tells how many words hold data
+offsets-count : (x : Read Sheet) → length (offsetsBy x) ≡ offsetsUsed (answerOf x)
+unfolding answerOf offsetsBy offsetsUsed
+offsets-count (value s) = omega (arith, offsets-length 0 (s .site))
+offsets-count (refused n p) = refl
+
+codes-count : (x : Read Sheet) → length (codesBy x) ≡ codesUsed (answerOf x)
+unfolding answerOf codesBy codesUsed
+codes-count (value s) = refl
+codes-count (refused n p) = refl
+
+-- the sheet's data stand at the front of o and c
+module _ {x : Read Sheet} {o c : List ℕ} {r : Reading} (T : Taken x o c r) where
+  all-offsets : {i : ℕ} → i ≡ offsetsUsed r → i ≡ length (offsetsBy x)
+  all-offsets u = u ∙ rw (T .answer) (sym (offsets-count x))
+
+  all-codes : {j : ℕ} → j ≡ codesUsed r → j ≡ length (codesBy x)
+  all-codes v = v ∙ rw (T .answer) (sym (codes-count x))
+
+  pub offsets-fit : {i : ℕ} → i ≡ offsetsUsed r → i ≤ length o
+  offsets-fit u = omega (arith, all-offsets u, front-fits _ _ _ (T .offsets-front) refl)
+
+  pub codes-fit : {j : ℕ} → j ≡ codesUsed r → j ≤ length c
+  codes-fit v = omega (arith, all-codes v, front-fits _ _ _ (T .codes-front) refl)
+
+-- the tables were lent as `offsets` and `codes`, and are zeroed behind the data
+pub zeros-behind : (sheet offsets codes : List ℕ) {o c : List ℕ} {r : Reading} → Taken (readSheet (length offsets) (length codes) sheet) o c r
+    → length o ≡ length offsets → length c ≡ length codes → {i j : ℕ} → i ≡ offsetsUsed r → j ≡ codesUsed r → {o₂ c₂ : List ℕ}
+    → o₂ ≡ take i o ++ replicate (length o - i) 0 → c₂ ≡ take j c ++ replicate (length c - j) 0 → Reads sheet offsets codes r o₂ c₂
+zeros-behind sheet offsets codes {o} {c} T lo lc u v f g =
+    record {
+      answer = T .answer;
+      offsets-are = refilled o (T .offsets-front) (all-offsets T u) lo f;
+      codes-are = refilled c (T .codes-front) (all-codes T v) lc g;
+    }

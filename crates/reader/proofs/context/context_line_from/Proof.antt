@@ -1,0 +1,16 @@
+use Rattle.reader.proofs.Contexts.{context-ended}
+use borrow.Author.Needs.{needs}
+use Rattle.reader.proofs.context.context_line_from.Statement.{statement}
+use Rattle.reader.proofs.context.context_line_from.Tie as tie
+
+returns : tie.Need-returns
+returns c =
+    let context-in = c .before .before .before in
+    let line-from = context-in .before .before in
+    let s = line-from .before .before .before in
+    context-ended _ _ _ _ (s .pre .0) (line-from .line-from .ensures .0) (context-in .context-in .ensures .0) (context-in .context-in .ensures .1) (c .line-end .ensures)
+
+pub context-line-from-spec : {M : Type 1} → statement M
+context-line-from-spec =
+    tie.close
+    (tie.spec (λ c κs. search needs) (λ c κs. search needs) (λ c κs. search needs) (λ c. search needs) returns)

@@ -1,0 +1,53 @@
+-- What a reading leaves at the front of the two tables: those of the site that was read, which are the sheet's text again.
+use mathlib.Core.Path.{_≡_, refl, sym}
+use mathlib.Core.List.{List, []}
+use Prim.Native.Nat.{ℕ, _+_, _-_}
+use native.Mathlib.Omega.{arith}
+use lib.ListN.{length, take}
+use lib.Seq.{take-append-seam}
+use Rattle.words.specs.Words.{padded}
+use Rattle.site.specs.Tables.{siteOf, offsetsOf, allCodes}
+use Rattle.sheet.specs.Read.{Read, value, refused}
+use Rattle.sheet.specs.Text.{sheetText}
+use Rattle.sheet.specs.Reading.{Sheet, readSheet}
+use Rattle.sheet.proofs.Tables.{offsets-length}
+use Rattle.sheet.proofs.WritesBack.{writes-back}
+use Rattle.tables.proofs.Cuts.{site-back}
+use Rattle.tables.specs.Sound.{Sound}
+use Rattle.reader.specs.declared.Reading.the-variants as reading
+use Rattle.reader.specs.Answers.{answerOf, offsetsBy, codesBy}
+use Rattle.writer.proofs.Sheets.{contexts-are}
+use Rattle.trip.proofs.Fitting.{site-is}
+
+-- words with zeros behind them begin with the words
+pub front-of : (n : ℕ) (ws : List ℕ) → take (length ws) (padded n ws) ≡ ws
+unfolding padded
+front-of n ws = take-append-seam ws _
+
+-- an accepted sheet is one that was read, with its three numbers
+pub sheet-read : (x : Read Sheet) {k n m : ℕ} → reading.Sheet k n m ≡ answerOf x
+    → (s : Sheet) × (x ≡ value s) × (s .k ≡ k) × (length (s .site) ≡ n) × (length (allCodes (s .site)) ≡ m)
+unfolding answerOf
+sheet-read (value s) e = (s, refl, sym (cc), sym (cc), sym (cc))
+sheet-read (refused p q) e = let z : _≡_ {A = ℕ} 0 1 = cc in absurd (omega arith)
+
+-- the tables begin with those of its site
+pub fronts : (lo lc : ℕ) (x : Read Sheet) (s : Sheet) {o c : List ℕ} → x ≡ value s → o ≡ padded lo (offsetsBy x) → c ≡ padded lc (codesBy x)
+    → (take (length (s .site) + 1) o ≡ offsetsOf (s .site)) × (take (length (allCodes (s .site))) c ≡ allCodes (s .site))
+unfolding offsetsBy codesBy
+fronts lo lc x s e f g =
+    let l : length (s .site) + 1 ≡ length (offsetsOf (s .site)) = omega (arith, offsets-length 0 (s .site)) in
+    (rw (f, e, l) (front-of lo (offsetsOf (s .site))), rw (g, e) (front-of lc (allCodes (s .site))))
+
+-- whose text is the sheet
+pub text-of : (lo lc : ℕ) (sheet : List ℕ) (s : Sheet) (o c : List ℕ) → readSheet lo lc sheet ≡ value s → (take (length (s .site) + 1) o ≡ offsetsOf (s .site)) × (take (length (allCodes (s .site))) c ≡ allCodes (s .site))
+    → sheetText (s .k) (siteOf (take (length (s .site) + 1) o) (take (length (allCodes (s .site))) c)) ≡ sheet
+text-of lo lc sheet s o c e f = rw (f .0, f .1, site-back [] (s .site)) (writes-back lo lc sheet e)
+
+-- the other way: where the site of sound tables is read, the tables are what they were
+pub tables-back : {k : ℕ} {os cs : List ℕ} → Sound os cs → (x : Read Sheet) → x ≡ value (record { k = k; site = siteOf os cs })
+    → (answerOf x ≡ reading.Sheet k (length os - 1) (length cs)) × (offsetsBy x ≡ os) × (codesBy x ≡ cs)
+unfolding answerOf offsetsBy codesBy
+tables-back {k} {os} {cs} S x e =
+    let n = sym (contexts-are os cs) in
+    rw e (λ i. reading.Sheet k (n i) (length (site-is S .1 i)), site-is S .0, site-is S .1)
