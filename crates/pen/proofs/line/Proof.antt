@@ -1,6 +1,5 @@
--- `pen::line` meets its contract: a walk of its MIR, by hand. The record's borrow is opened, the record is read, the text, the key and the numbers are handed on to `line_at` for good, and what that returns is stored, where the borrow is closed.
--- All that the proof knows of `line_at` is that it meets its contract.
--- Assumes nothing.
+-- The walk through `line`, step by step: its borrow of the pen is opened, the pen read, text, key and numbers passed to `line_at`,
+-- and the pen that comes back stored before the borrow is closed. Of `line_at` only its contract is used.
 use mathlib.Core.Path.{_≡_, refl}
 use Prim.Native.Nat.{ℕ}
 use mathlib.Core.List.{[], _∷_, List}

@@ -1,6 +1,5 @@
--- `pen::line_by` meets its contract: a walk of its MIR, by hand. The local record is lent to `line` for a lifetime that is made for the call, the text, the key and the numbers are handed on for good, and the record is taken back at its last value.
--- All that the proof knows of `line` is that it meets its contract.
--- Assumes nothing.
+-- The walk through `line_by`, step by step: a pen of its own is lent to `line` for the time of the call, with text, key and numbers,
+-- and is taken back as `line` left it. Of `line` only its contract is used.
 use mathlib.Core.Path.{_≡_, refl, sym, ap, subst}
 use Prim.Native.Nat.{ℕ, _<_, _^_}
 use mathlib.Core.List.{[], _∷_, List}
