@@ -1,4 +1,5 @@
--- What is known of the next event where the agenda names it.
+-- What is known of the next event where the agenda names it:
+-- it is the event behind the first j, and it occurs in the site.
 use mathlib.Core.Path.{_≡_, sym}
 use Prim.Native.Nat.{ℕ, _+_, _<_}
 use mathlib.Core.List.{List}

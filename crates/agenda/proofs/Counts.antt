@@ -1,4 +1,5 @@
 -- How far each context has come after the first j events, and how many events there are.
+-- The next event is the next place of its context.
 use mathlib.Core.Bool.{Bool}
 use mathlib.Core.List.{List, [], _∷_, _++_}
 use mathlib.Core.Path.{_≡_, sym, ap, _∙_}

@@ -1,44 +1,48 @@
-// The order of the events, over the work area: one cursor a context, then a log of the events done.
+// The order of the events, over the work area: which event is next, and which are done.
+// No other crate knows how the work area is laid out: 256 words with the count of places done of each context; 4,097 words that say where
+// each code's bucket starts; and the buckets, a word for each place of the code, with one more than the context of each event done there.
 ghost use mathlib.Core.Path.{_≡_};
-ghost use Prim.Native.Nat.{_+_, _≤_, _<_, pred};
-ghost use lib.ListN.{length, getD, getElem?, replicate};
+ghost use Prim.Native.Nat.{_+_, _≤_, _<_};
+ghost use lib.ListN.{length, getElem?, replicate};
 ghost use Rattle.site.specs.Measure.{inUse};
 ghost use Rattle.site.specs.Events.{eventsOf};
 ghost use Rattle.site.specs.Tables.{siteOf};
+ghost use Rattle.words.specs.Words.{Holds};
 ghost use Rattle.tables.specs.Sound.{Sound};
-ghost use Rattle.agenda.specs.Agenda.{Agenda};
-ghost use Rattle.agenda.specs.Next.{nextIs, betterOf, doneOf, noEvent};
+ghost use Rattle.agenda.specs.Agenda.{postedOf, Agenda, summedTo};
+ghost use Rattle.agenda.specs.Postings.{postedIs};
+ghost use Rattle.agenda.specs.Next.{nextIs, betterOf};
 use site::Context;
 use site::Place;
 use tables::context;
+use walk::Fraction;
+use walk::below;
 
+// The next event, by its context and its place, or that all are done.
 pub enum Next {
     At(Context, Place),
     Over,
 }
 
-// An event done: its context and its code.
-pub struct Done {
-    pub context: Context,
-    pub code: u16,
+// An event done at some code, by its context, or that there are no more.
+pub enum Posted {
+    At(Context),
+    Over,
 }
 
-// A context with the two parts of its next ceiling.
-pub struct Best {
-    pub context: usize,
-    pub left: usize,
-    pub size: usize,
+// A context that may come next, with the ceiling of its next place.
+struct Candidate {
+    context: Context,
+    ceiling: Fraction,
 }
 
 // The one with the higher ceiling; at equal ones the first.
-fn better(a: Best, b: Best) -> Best
-    requires { ⌜ (a .left ≤ 4096) × (a .size ≤ 4096) ⌝ }
-    requires { ⌜ (b .left ≤ 4096) × (b .size ≤ 4096) ⌝ }
+fn better(a: Candidate, b: Candidate) -> Candidate
     ensures { λ r. ⌜ r ≡ betterOf a b ⌝ }
 {
-    let x = a.left * b.size;
-    let y = b.left * a.size;
-    if x < y { b } else { a }
+    let x = a.ceiling;
+    let y = b.ceiling;
+    if below(x, y) { b } else { a }
 }
 
 // The next event after the first `events`.
@@ -50,47 +54,77 @@ pub fn next_event(offsets: &[u16], codes: &[u16], work: &[u16], events: usize) -
     if events >= codes.len() {
         return Next::Over;
     }
-    let mut best = Best {
-        context: 0,
-        left: 0,
-        size: 1,
+    let mut best = Candidate {
+        context: Context(0),
+        ceiling: Fraction { num: 0, den: 1 },
     };
     let mut i: usize = 0;
     while i + 1 < offsets.len() {
-        let part = context(offsets, codes, Context(i as u16));
-        let size = part.len();
-        let done = work[i] as usize;
+        let size = offsets[i + 1] - offsets[i];
+        let ceiling = Fraction {
+            num: size - work[i],
+            den: size,
+        };
         best = better(
             best,
-            Best {
-                context: i,
-                left: size - done,
-                size,
+            Candidate {
+                context: Context(i as u16),
+                ceiling,
             },
         );
         i += 1;
     }
-    Next::At(
-        Context(best.context as u16),
-        Place((best.size - best.left + 1) as u16),
-    )
+    let c = best.context;
+    let ceiling = best.ceiling;
+    Next::At(c, Place(ceiling.den - ceiling.num + 1))
 }
 
-// What is kept of the j-th event.
-pub fn done_at(offsets: &[u16], codes: &[u16], work: &[u16], events: usize, j: usize) -> Done
+// The context of the n-th event done at a code, in the order of the events.
+pub fn posted_at(
+    offsets: &[u16],
+    codes: &[u16],
+    work: &[u16],
+    events: usize,
+    code: u16,
+    n: usize,
+) -> Posted
     requires { ⌜ Sound (now offsets) (now codes) ⌝ }
     requires { ⌜ Agenda (siteOf (now offsets) (now codes)) events (now work) ⌝ }
-    requires { ⌜ j < events ⌝ }
-    ensures { λ r. ⌜ r ≡ doneOf (siteOf (now (offsets .entry)) (now (codes .entry))) (getD (eventsOf inUse (siteOf (now (offsets .entry)) (now (codes .entry)))) j noEvent) ⌝ }
+    requires { ⌜ code < 4096 ⌝ }
+    ensures { λ r. ⌜ r ≡ postedIs (getElem? (postedOf (siteOf (now (offsets .entry)) (now (codes .entry))) events code) n) ⌝ }
 {
-    let at = offsets.len() - 1 + 2 * j;
-    Done {
-        context: Context(work[at]),
-        code: work[at + 1],
+    let x = code as usize;
+    let start = work[256 + x] as usize;
+    let end = work[257 + x] as usize;
+    if n >= end - start {
+        return Posted::Over;
     }
+    let word = work[4353 + start + n];
+    if word == 0 {
+        return Posted::Over;
+    }
+    Posted::At(Context(word - 1))
 }
 
-// Records the next event: its cursor moves on, and it stands at the log's end.
+// How many events are done at a code.
+fn posted_count(offsets: &[u16], codes: &[u16], work: &[u16], events: usize, code: u16) -> usize
+    requires { ⌜ Sound (now offsets) (now codes) ⌝ }
+    requires { ⌜ Agenda (siteOf (now offsets) (now codes)) events (now work) ⌝ }
+    requires { ⌜ code < 4096 ⌝ }
+    ensures { λ r. ⌜ r ≡ length (postedOf (siteOf (now (offsets .entry)) (now (codes .entry))) events code) ⌝ }
+{
+    let mut n: usize = 0;
+    'posted: loop {
+        let next = posted_at(offsets, codes, work, events, code, n);
+        let Posted::At(_) = next else {
+            break 'posted;
+        };
+        n += 1;
+    }
+    n
+}
+
+// Records the next event: its cursor moves on, and it stands last in its code's bucket.
 pub fn note_event(
     offsets: &[u16],
     codes: &[u16],
@@ -107,9 +141,50 @@ pub fn note_event(
     let part = context(offsets, codes, c);
     let place = p.0 as usize;
     let code = part[place - 1];
-    let at = offsets.len() - 1 + 2 * events;
+    let n = posted_count(offsets, codes, work, events, code);
+    let x = code as usize;
+    let start = work[256 + x] as usize;
     let i = c.0 as usize;
     work[i] = p.0;
-    work[at] = c.0;
-    work[at + 1] = code;
+    work[4353 + start + n] = c.0 + 1;
+}
+
+// Counts the codes: how often each stands, one word behind the code's start.
+fn count_codes(offsets: &[u16], codes: &[u16], work: &mut [u16])
+    requires { ⌜ Sound (now offsets) (now codes) ⌝ }
+    requires { ⌜ (10240 ≤ length (now work)) × (now work ≡ replicate (length (now work)) 0) ⌝ }
+    ensures { λ _. ⌜ Holds (now (work .exit)) (summedTo 0 (now (codes .entry))) ⌝ }
+{
+    let mut i: usize = 0;
+    while i < codes.len() {
+        let at = 257 + codes[i] as usize;
+        let count = work[at];
+        work[at] = count + 1;
+        i += 1;
+    }
+}
+
+// Sums up the counts, so that each code's start stands in its place.
+fn sum_starts(offsets: &[u16], codes: &[u16], work: &mut [u16])
+    requires { ⌜ Sound (now offsets) (now codes) ⌝ }
+    requires { ⌜ (10240 ≤ length (now work)) × Holds (now work) (summedTo 0 (now codes)) ⌝ }
+    ensures { λ _. ⌜ Holds (now (work .exit)) (summedTo 4096 (now (codes .entry))) ⌝ }
+{
+    let mut x: usize = 0;
+    while x < 4096 {
+        let start = work[256 + x];
+        let count = work[257 + x];
+        work[257 + x] = start + count;
+        x += 1;
+    }
+}
+
+// Lays out a work area of zeros, with no event done.
+pub fn prepare(offsets: &[u16], codes: &[u16], work: &mut [u16])
+    requires { ⌜ Sound (now offsets) (now codes) ⌝ }
+    requires { ⌜ (10240 ≤ length (now work)) × (now work ≡ replicate (length (now work)) 0) ⌝ }
+    ensures { λ _. ⌜ Agenda (siteOf (now (offsets .entry)) (now (codes .entry))) 0 (now (work .exit)) ⌝ }
+{
+    count_codes(offsets, codes, work);
+    sum_starts(offsets, codes, work);
 }

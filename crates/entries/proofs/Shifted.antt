@@ -1,43 +1,44 @@
--- The invariant of `shift`, which writes from the back.
+-- The invariant of `shift`, which writes from the back: what is in front is as it was,
+-- and what is behind is moved up by an entry.
 use mathlib.Core.Path.{_≡_, refl, sym, ap, _∙_}
-use mathlib.Core.List.{List, _++_, append-assoc, append-nil}
+use mathlib.Core.List.{List, _++_, append-assoc}
 use Prim.Native.Nat.{ℕ, suc, _+_, _-_, _≤_, _<_}
 use native.Mathlib.Nat.{sub-self, le-refl}
-use native.Mathlib.Numerals.{add-one}
 use native.Mathlib.Omega.{arith}
-use lib.ListN.{length, getD, set, take, drop, replicate, length-set}
-use lib.Seq.{take-set-le, take-take, drop-cons, getD-take, take-suc-set, take-all}
-use Rattle.words.proofs.Lists.{drop-set-same, glue, replicate-more}
+use lib.ListN.{length, getD, set, take, drop, length-set}
+use lib.Seq.{take-set-le, take-take, drop-cons, getD-take}
+use Rattle.words.proofs.Lists.{drop-set-same, glue}
+use Rattle.entries.specs.Entries.{width}
 
--- j up to b is moved: what is before j + 4 is as it was
+-- j up to b is moved: what is before j + width is as it was
 pub record Shifted (old now : List ℕ) (a b j : ℕ) : Type 0 where
   pub from : a ≤ j
   pub to : j ≤ b
   pub long : length now ≡ length old
-  pub front : take (j + 4) now ≡ take (j + 4) old
-  pub back : drop (j + 4) now ≡ take (b - j) (drop j old) ++ drop (b + 4) old
+  pub front : take (j + width) now ≡ take (j + width) old
+  pub back : drop (j + width) now ≡ take (b - j) (drop j old) ++ drop (b + width) old
 
 pub shifted-start : {old : List ℕ} {a b : ℕ} → a ≤ b → Shifted old old a b b
 shifted-start {b = b} h = record { from = h; to = le-refl b; long = refl; front = refl; back = rw (sub-self b) }
 
 module _ {old now : List ℕ} {a b j : ℕ} (w : Shifted old now a b j) where
-  pub shifted-end : j ≤ a → now ≡ take (a + 4) old ++ take (b - a) (drop a old) ++ drop (b + 4) old
-  shifted-end h = let e : j ≡ a = omega arith in rw append-assoc (rw e at (glue (j + 4) now _ _ (w .front) (w .back)))
+  pub shifted-end : j ≤ a → now ≡ take (a + width) old ++ take (b - a) (drop a old) ++ drop (b + width) old
+  shifted-end h = let e : j ≡ a = omega arith in rw append-assoc (rw e at (glue (j + width) now _ _ (w .front) (w .back)))
 
-  pub shifted-next : a < j → b + 4 ≤ length old → Shifted old (set now (j - 1 + 4) (getD now (j - 1) 0)) a b (j - 1)
+  pub shifted-next : a < j → b + width ≤ length old → Shifted old (set now (j - 1 + width) (getD now (j - 1) 0)) a b (j - 1)
   shifted-next h l = go (j - 1) (omega arith)
     where
-      go : (i : ℕ) → j ≡ i + 1 → Shifted old (set now (i + 4) (getD now i 0)) a b i
+      go : (i : ℕ) → j ≡ i + 1 → Shifted old (set now (i + width) (getD now i 0)) a b i
       go i e =
-          let same : getD now i 0 ≡ getD old i 0 = sym (getD-take (j + 4) now i 0 (omega arith)) ∙ ap (λ (t : List ℕ). getD t i 0) (w .front) ∙ getD-take (j + 4) old i 0 (omega arith) in
-          let f : take (i + 4) now ≡ take (i + 4) old = sym (take-take (i + 4) (j + 4) now (omega arith)) ∙ ap (λ (t : List ℕ). take (i + 4) t) (w .front) ∙ take-take (i + 4) (j + 4) old (omega arith) in
-          let s : suc (i + 4) ≡ j + 4 = omega arith in
+          let same : getD now i 0 ≡ getD old i 0 = sym (getD-take (j + width) now i 0 (omega arith)) ∙ ap (λ (t : List ℕ). getD t i 0) (w .front) ∙ getD-take (j + width) old i 0 (omega arith) in
+          let f : take (i + width) now ≡ take (i + width) old = sym (take-take (i + width) (j + width) now (omega arith)) ∙ ap (λ (t : List ℕ). take (i + width) t) (w .front) ∙ take-take (i + width) (j + width) old (omega arith) in
+          let s : suc (i + width) ≡ j + width = omega arith in
           let n : b - i ≡ suc (b - j) = omega arith in
           let m : suc i ≡ j = omega arith in
           record {
             from = omega arith;
             to = omega arith;
             long = simp length-set (w .long);
-            front = rw (take-set-le (i + 4) now (i + 4) (getD now i 0) (le-refl (i + 4))) f;
-            back = rw (drop-set-same (i + 4) now (getD now i 0) (omega arith), s, w .back, same, n, drop-cons old i 0 (omega arith), m);
+            front = rw (take-set-le (i + width) now (i + width) (getD now i 0) (le-refl (i + width))) f;
+            back = rw (drop-set-same (i + width) now (getD now i 0) (omega arith), s, w .back, same, n, drop-cons old i 0 (omega arith), m);
           }

@@ -1,15 +1,13 @@
 -- What the list buffer holds in the join's loop.
-use mathlib.Core.Bool.{Bool, false, cond}
 use mathlib.Core.List.{List, map}
 use mathlib.Core.Path.{_≡_}
-use Prim.Native.Nat.{ℕ, _*_, _-_}
-use lib.Dec.{ltb}
+use Prim.Native.Nat.{ℕ}
 use lib.ListN.{length}
 use Rattle.order.specs.Order.{_∈_, Distinct}
 use Rattle.site.specs.Measure.{inUse}
 use Rattle.site.specs.Site.{Site, Pair, Shares, topOf}
 use Rattle.words.specs.Words.{flat, Holds}
-use Rattle.entries.specs.Entries.{entryAt, entryOf, words}
+use Rattle.entries.specs.Entries.{entryOf, words}
 
 -- the words of the entries of some pairs
 abbrev pub entryWords : Site → List Pair → List ℕ
@@ -24,9 +22,3 @@ pub record Listed (site : Site) (k : ℕ) (pairs : List Pair) (list : List ℕ) 
 pub record Proper (site : Site) (pairs : List Pair) : Type 0 where
   pub once : Distinct pairs
   pub share : (q : Pair) → q ∈ pairs → Shares site q
-
--- k are listed, and the fraction left / size is below the similarity of the k-th
-unfoldable pub belowLast : List ℕ → ℕ → ℕ → ℕ → ℕ → Bool
-belowLast list found k left size =
-    let e = entryAt list (4 * (k - 1)) in
-    cond (ltb found k) false (ltb (left * e .union) (e .shared * size))

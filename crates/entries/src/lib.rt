@@ -1,14 +1,21 @@
-// The list buffer: entries of four words, best first, flat in a slice of words.
+// The list buffer: entries, the most alike first, flat in a slice of words, and zeros behind them.
+// Entries are compared by their similarities and then by their numbers; an insertion keeps the best k.
 ghost use mathlib.Core.Path.{_≡_};
-ghost use mathlib.Core.List.{[], _∷_, _++_};
+ghost use mathlib.Core.List.{_++_};
 ghost use Prim.Native.Nat.{_+_, _-_, _*_, _≤_, _<_, min};
 ghost use lib.ListN.{length, take, drop};
+ghost use Rattle.order.specs.Order.{kth};
+ghost use Rattle.site.specs.Site.{numbersBefore};
 ghost use Rattle.entries.specs.Order.{rankOf};
-ghost use Rattle.words.specs.Words.{flat};
-ghost use Rattle.entries.specs.Listed.{belowLast};
-ghost use Rattle.entries.specs.Entries.{entryAt, entries, words, entryBefore, inserted};
+ghost use Rattle.entries.specs.Entries.{width, words, pairOf, entryAt, entries, similarityOf, entryBefore, insertedWords, Inserts, belowEntry};
 use site::Context;
+use walk::Fraction;
+use walk::below;
 
+// How many words an entry has.
+pub const WIDTH: usize = 4;
+
+// A pair on the list: its two contexts, how many codes they share, and how many they have in all.
 pub struct Entry {
     pub lower: Context,
     pub higher: Context,
@@ -16,18 +23,20 @@ pub struct Entry {
     pub union: u16,
 }
 
-// Whether e comes before f: by similarity, then by the lower context, then by the higher.
-pub fn rank_before(e: Entry, f: Entry) -> bool
-    ensures { λ r. ⌜ r ≡ entryBefore e f ⌝ }
+// How alike the pair is.
+fn similarity(e: Entry) -> Fraction
+    ensures { λ r. ⌜ r ≡ similarityOf e ⌝ }
 {
-    let a = (e.shared as u32) * (f.union as u32);
-    let b = (f.shared as u32) * (e.union as u32);
-    if b < a {
-        return true;
+    Fraction {
+        num: e.shared,
+        den: e.union,
     }
-    if a < b {
-        return false;
-    }
+}
+
+// Whether e's numbers come first: the smaller lower context, then the smaller higher one.
+fn numbers_before(e: Entry, f: Entry) -> bool
+    ensures { λ r. ⌜ r ≡ numbersBefore (pairOf e) (pairOf f) ⌝ }
+{
     let el = e.lower.0;
     let fl = f.lower.0;
     if el < fl {
@@ -41,11 +50,27 @@ pub fn rank_before(e: Entry, f: Entry) -> bool
     eh < fh
 }
 
-// The entry whose words start at `at`.
-pub fn entry_at(list: &[u16], at: usize) -> Entry
-    requires { ⌜ at + 4 ≤ length (now list) ⌝ }
-    ensures { λ r. ⌜ r ≡ entryAt (now (list .entry)) at ⌝ }
+// Whether e comes before f on the list: by similarity, then by their numbers.
+pub fn rank_before(e: Entry, f: Entry) -> bool
+    ensures { λ r. ⌜ r ≡ entryBefore e f ⌝ }
 {
+    let s = similarity(e);
+    let t = similarity(f);
+    if below(t, s) {
+        return true;
+    }
+    if below(s, t) {
+        return false;
+    }
+    numbers_before(e, f)
+}
+
+// The entry i of the list, counted from 0.
+pub fn entry_at(list: &[u16], i: usize) -> Entry
+    requires { ⌜ width * i + width ≤ length (now list) ⌝ }
+    ensures { λ r. ⌜ r ≡ entryAt (now (list .entry)) (width * i) ⌝ }
+{
+    let at = WIDTH * i;
     Entry {
         lower: Context(list[at]),
         higher: Context(list[at + 1]),
@@ -55,13 +80,13 @@ pub fn entry_at(list: &[u16], at: usize) -> Entry
 }
 
 // How many of the listed entries stay before e.
-pub fn find_rank(list: &[u16], found: usize, e: Entry) -> usize
-    requires { ⌜ (4 * found ≤ length (now list)) × (found ≤ 64) ⌝ }
+fn find_rank(list: &[u16], found: usize, e: Entry) -> usize
+    requires { ⌜ (width * found ≤ length (now list)) × (found ≤ 64) ⌝ }
     ensures { λ r. ⌜ r ≡ rankOf entryBefore e (entries found (now (list .entry))) ⌝ }
 {
     let mut i: usize = 0;
     while i < found {
-        let f = entry_at(list, 4 * i);
+        let f = entry_at(list, i);
         if rank_before(e, f) {
             return i;
         }
@@ -70,22 +95,22 @@ pub fn find_rank(list: &[u16], found: usize, e: Entry) -> usize
     found
 }
 
-// Moves the words from a up to b four places up, the last one first.
+// Moves the words from a up to b up by an entry, the last one first.
 fn shift(list: &mut [u16], a: usize, b: usize)
-    requires { ⌜ (a ≤ b) × (b + 4 ≤ length (now list)) ⌝ }
-    ensures { λ _. ⌜ now (list .exit) ≡ take (a + 4) (now (list .entry)) ++ take (b - a) (drop a (now (list .entry))) ++ drop (b + 4) (now (list .entry)) ⌝ }
+    requires { ⌜ (a ≤ b) × (b + width ≤ length (now list)) ⌝ }
+    ensures { λ _. ⌜ now (list .exit) ≡ take (a + width) (now (list .entry)) ++ take (b - a) (drop a (now (list .entry))) ++ drop (b + width) (now (list .entry)) ⌝ }
 {
     let mut j = b;
     while j > a {
         j -= 1;
-        list[j + 4] = list[j];
+        list[j + WIDTH] = list[j];
     }
 }
 
 // Writes e's words from `at`.
 fn put_entry(list: &mut [u16], at: usize, e: Entry)
-    requires { ⌜ at + 4 ≤ length (now list) ⌝ }
-    ensures { λ _. ⌜ now (list .exit) ≡ take at (now (list .entry)) ++ words e ++ drop (at + 4) (now (list .entry)) ⌝ }
+    requires { ⌜ at + width ≤ length (now list) ⌝ }
+    ensures { λ _. ⌜ now (list .exit) ≡ take at (now (list .entry)) ++ words e ++ drop (at + width) (now (list .entry)) ⌝ }
 {
     list[at] = e.lower.0;
     list[at + 1] = e.higher.0;
@@ -102,32 +127,31 @@ fn smaller(x: usize, y: usize) -> usize
 // Lists e among the first `found` entries, and keeps the best k. It answers how many are listed.
 pub fn insert(list: &mut [u16], found: usize, k: usize, e: Entry) -> usize
     requires { ⌜ (found ≤ k) × (k ≤ 64) ⌝ }
-    requires { ⌜ 4 * k ≤ length (now list) ⌝ }
+    requires { ⌜ width * k ≤ length (now list) ⌝ }
     ensures { λ r. ⌜ r ≡ min k (found + 1) ⌝ }
-    ensures { λ r. ⌜ now (list .exit) ≡ flat words (take k (inserted e (entries found (now (list .entry))))) ++ drop (4 * min k (found + 1)) (now (list .entry)) ⌝ }
+    ensures { λ r. ⌜ now (list .exit) ≡ insertedWords k e found (now (list .entry)) ⌝ }
+    ensures { λ r. ⌜ Inserts k e found (now (list .entry)) (now (list .exit)) ⌝ }
 {
     let p = find_rank(list, found, e);
     if p >= k {
         return k;
     }
     let keep = smaller(found, k - 1);
-    shift(list, 4 * p, 4 * keep);
-    put_entry(list, 4 * p, e);
+    shift(list, WIDTH * p, WIDTH * keep);
+    put_entry(list, WIDTH * p, e);
     keep + 1
 }
 
-// Whether k are listed, and left / size is below the similarity of the k-th.
-pub fn below_last(list: &[u16], found: usize, k: usize, left: usize, size: usize) -> bool
+// Whether k are listed and a ceiling is below the similarity of the k-th: only below.
+pub fn below_last(list: &[u16], found: usize, k: usize, ceiling: Fraction) -> bool
     requires { ⌜ (0 < k) × (k ≤ 64) ⌝ }
-    requires { ⌜ 4 * k ≤ length (now list) ⌝ }
-    requires { ⌜ (left ≤ 4096) × (size ≤ 4096) ⌝ }
-    ensures { λ r. ⌜ r ≡ belowLast (now (list .entry)) found k left size ⌝ }
+    requires { ⌜ width * k ≤ length (now list) ⌝ }
+    ensures { λ r. ⌜ r ≡ belowEntry ceiling (kth k (entries found (now (list .entry)))) ⌝ }
 {
     if found < k {
         return false;
     }
-    let e = entry_at(list, 4 * (k - 1));
-    let a = left * (e.union as usize);
-    let b = (e.shared as usize) * size;
-    a < b
+    let e = entry_at(list, k - 1);
+    let s = similarity(e);
+    below(ceiling, s)
 }

@@ -1,14 +1,21 @@
-// The reader and the writer on plain words, for tests from outside.
-use join::Answer;
-use reader::Reading;
-use writer::Writing;
+// The join, the reader and the writer on plain words, for tests and benchmarks from outside.
+// Each answer is four words at the front of `answer`; where that has fewer, nothing is done. The value returned is always 0.
+ghost use mathlib.Core.List.{[], _∷_};
 ghost use mathlib.Core.Path.{_≡_};
 ghost use Prim.Native.Nat.{_≤_};
 ghost use lib.ListN.{length};
+ghost use Rattle.probe.specs.Probe.{joinWords, readWords, writeWords, told, joined, probeJoin, loaded, probeRead, printed, probeWrite};
+use join::Answer;
+use join::join;
+use reader::Reading;
+use reader::read;
+use writer::Writing;
+use writer::write;
 
-// Four words of an answer.
+// Writes four words at the front.
 fn put(answer: &mut [u64], a: u64, b: u64, c: u64, d: u64)
     requires { ⌜ 4 ≤ length (now answer) ⌝ }
+    ensures { λ _. ⌜ now (answer .exit) ≡ told (a ∷ b ∷ c ∷ d ∷ []) (now (answer .entry)) ⌝ }
 {
     answer[0] = a;
     answer[1] = b;
@@ -16,73 +23,37 @@ fn put(answer: &mut [u64], a: u64, b: u64, c: u64, d: u64)
     answer[3] = d;
 }
 
-fn put_reading(answer: &mut [u64], r: Reading)
+fn put_join(answer: &mut [u64], r: Answer)
     requires { ⌜ 4 ≤ length (now answer) ⌝ }
-{
-    match r {
-        Reading::Sheet { k, contexts, codes } => put(
-            answer,
-            0,
-            k as u64,
-            contexts as u64,
-            codes as u64,
-        ),
-        Reading::Refused { number, place } => put(answer, number as u64, place as u64, 0, 0),
-    }
-}
-
-#[no_mangle]
-pub extern "C" fn probe_read(
-    sheet: &[u8],
-    offsets: &mut [u16],
-    codes: &mut [u16],
-    answer: &mut [u64],
-) -> u64
-    ensures { λ r. ⌜ r ≡ 0 ⌝ }
-{
-    if answer.len() < 4 {
-        return 0;
-    }
-    let r = reader::read(sheet, offsets, codes);
-    put_reading(answer, r);
-    0
-}
-
-fn put_writing(answer: &mut [u64], r: Writing)
-    requires { ⌜ 4 ≤ length (now answer) ⌝ }
-{
-    match r {
-        Writing::Written(length) => put(answer, 0, length as u64, 0, 0),
-        Writing::Refused { number, place } => put(answer, number as u64, place as u64, 0, 0),
-    }
-}
-
-#[no_mangle]
-pub extern "C" fn probe_write(
-    k: u16,
-    offsets: &[u16],
-    codes: &[u16],
-    text: &mut [u8],
-    answer: &mut [u64],
-) -> u64
-    ensures { λ r. ⌜ r ≡ 0 ⌝ }
-{
-    if answer.len() < 4 {
-        return 0;
-    }
-    let r = writer::write(k, offsets, codes, text);
-    put_writing(answer, r);
-    0
-}
-
-fn put_answer(answer: &mut [u64], r: Answer)
-    requires { ⌜ 4 ≤ length (now answer) ⌝ }
+    ensures { λ _. ⌜ now (answer .exit) ≡ told (joinWords r) (now (answer .entry)) ⌝ }
 {
     match r {
         Answer::Listed { found, events, met } => {
             put(answer, 0, found as u64, events as u64, met as u64)
         }
-        Answer::Declined { number, place } => put(answer, number as u64, place as u64, 0, 0),
+        Answer::Refused { number, place } => put(answer, number as u64, place as u64, 0, 0),
+    }
+}
+
+fn put_read(answer: &mut [u64], r: Reading)
+    requires { ⌜ 4 ≤ length (now answer) ⌝ }
+    ensures { λ _. ⌜ now (answer .exit) ≡ told (readWords r) (now (answer .entry)) ⌝ }
+{
+    match r {
+        Reading::Sheet { k, contexts, codes } => {
+            put(answer, 0, k as u64, contexts as u64, codes as u64)
+        }
+        Reading::Refused { number, place } => put(answer, number as u64, place as u64, 0, 0),
+    }
+}
+
+fn put_write(answer: &mut [u64], r: Writing)
+    requires { ⌜ 4 ≤ length (now answer) ⌝ }
+    ensures { λ _. ⌜ now (answer .exit) ≡ told (writeWords r) (now (answer .entry)) ⌝ }
+{
+    match r {
+        Writing::Written(length) => put(answer, 0, length as u64, 0, 0),
+        Writing::Refused { number, place } => put(answer, number as u64, place as u64, 0, 0),
     }
 }
 
@@ -97,11 +68,49 @@ pub extern "C" fn probe_join(
     answer: &mut [u64],
 ) -> u64
     ensures { λ r. ⌜ r ≡ 0 ⌝ }
+    ensures { λ _. ⌜ joined (now (list .exit)) (now (work .exit)) (now (trail .exit)) (now (answer .exit)) ≡ probeJoin k (now (offsets .entry)) (now (codes .entry)) (now (list .entry)) (now (work .entry)) (now (trail .entry)) (now (answer .entry)) ⌝ }
 {
     if answer.len() < 4 {
         return 0;
     }
-    let r = join::join(k, offsets, codes, list, work, trail);
-    put_answer(answer, r);
+    let r = join(k, offsets, codes, list, work, trail);
+    put_join(answer, r);
+    0
+}
+
+#[no_mangle]
+pub extern "C" fn probe_read(
+    sheet: &[u8],
+    offsets: &mut [u16],
+    codes: &mut [u16],
+    answer: &mut [u64],
+) -> u64
+    ensures { λ r. ⌜ r ≡ 0 ⌝ }
+    ensures { λ _. ⌜ loaded (now (offsets .exit)) (now (codes .exit)) (now (answer .exit)) ≡ probeRead (now (sheet .entry)) (now (offsets .entry)) (now (codes .entry)) (now (answer .entry)) ⌝ }
+{
+    if answer.len() < 4 {
+        return 0;
+    }
+    let r = read(sheet, offsets, codes);
+    put_read(answer, r);
+    0
+}
+
+#[no_mangle]
+pub extern "C" fn probe_write(
+    k: u16,
+    offsets: &[u16],
+    codes: &[u16],
+    text: &mut [u8],
+    answer: &mut [u64],
+) -> u64
+    ensures { λ r. ⌜ r ≡ 0 ⌝ }
+    ensures { λ _. ⌜ printed (now (text .exit)) (now (answer .exit)) ≡ probeWrite k (now (offsets .entry)) (now (codes .entry)) (now (text .entry)) (now (answer .entry)) ⌝ }
+{
+    if answer.len() < 4 {
+        return 0;
+    }
+    let r = write(k, offsets, codes, text);
+    put_write(answer, r);
     0
 }

@@ -1,107 +1,117 @@
--- The whole search: its invariant, a turn, and its end.
-use mathlib.Core.Bool.{true, false}
+-- The search after some events: its start, one event more, and its two ends. It rests on the laws of the loop (crate trail):
+-- what is met is the beginning of the trail, so that a trail that has no room for it has none in the end.
 use mathlib.Core.List.{List, [], _∷_, _++_}
 use mathlib.Core.List.{List·Memᴰ·not-nil as not-nil}
 use mathlib.Core.Path.{_≡_, refl, sym, ap, _∙_}
-use Prim.Native.Nat.{ℕ, suc, _+_, _≤_, _<_}
+use Prim.Native.Nat.{ℕ, suc, _+_, _*_, _/_, _≤_, _<_}
 use native.Mathlib.Numerals.{add-one}
 use native.Mathlib.Omega.{arith}
-use lib.ListN.{length, getElem?, drop, replicate, drop-of-length-le}
+use lib.ListN.{length, drop, length-append}
 use Rattle.site.specs.Ratio.{reaches}
 use Rattle.site.specs.Measure.{inUse}
-use Rattle.site.specs.Events.{Event, ceilingAt, cutOf, cutOff, eventsOf, metFrom, metAfter}
+use Rattle.site.specs.Events.{Event, cutOff, eventsOf, metFrom, metAfter}
 use Rattle.site.specs.Tables.{siteOf}
 use Rattle.site.specs.declared.Context.{Context}
 use Rattle.site.specs.declared.Place.{Place}
 use Rattle.site.proofs.Measures.{in-use-lawful}
-use Rattle.trail.proofs.Loop.{Reached, Unreached, unreached, loop-goes, loop-ends}
-use Rattle.words.proofs.Lists.{getElem?-is}
-use Rattle.words.proofs.Split.{by-le}
+use Rattle.trail.proofs.Loop.{Reached, loop-goes, loop-ends, loop-prefix}
 use Rattle.tables.specs.Sound.{Sound}
-use Rattle.tables.proofs.Sound.{sound-rises, contexts-are}
+use Rattle.tables.proofs.Sound.{sound-rises}
 use Rattle.agenda.specs.Agenda.{firstEvents, Agenda}
-use Rattle.agenda.specs.Next.{nextIs, noEvent}
+use Rattle.agenda.specs.Next.{nextIs}
 use Rattle.agenda.specs.declared.Next.the-variants.{At, Over}
-use Rattle.agenda.proofs.Counts.{events-many, split-at, eventAt, left-is, one-more}
-use Rattle.agenda.proofs.Coming.{Coming}
-use Rattle.agenda.proofs.Worked.{agenda-start, done-length}
-use Rattle.entries.specs.Listed.{Proper}
-use Rattle.search.specs.Search.{eventIs, Kept, Searched}
-use Rattle.search.specs.declared.Tally.{Tally}
+use Rattle.agenda.proofs.Counts.{events-many, split-at, left-is, one-more}
+use Rattle.agenda.proofs.Coming.{Coming, coming}
+use Rattle.agenda.proofs.Standing.{done-length}
+use Rattle.search.specs.Search.{eventIs, dueOf, Kept, Searched}
+use Rattle.search.specs.Outcome.{zeros}
+use Rattle.search.specs.declared.Counts.{Counts}
+use Rattle.search.specs.declared.Answer.the-variants as answer
 use Rattle.search.proofs.Kept.{kept-start}
-use Rattle.search.proofs.Turns.{after-proper}
+use Rattle.search.proofs.Due.{due-at, due-end}
 
--- after j events
-pub record Searching (os cs : List ℕ) (k j : ℕ) (list₀ work₀ buffer₀ list work buffer : List ℕ) (t : Tally) : Type 0 where
-  pub kept : Kept (siteOf os cs) k (metAfter inUse (siteOf os cs) j) list buffer t
+-- after j events: the buffers, every event done reaches the cut-off of all, and what is met has room
+pub record Searching (os cs : List ℕ) (k j : ℕ) (list₀ work₀ buffer₀ list work buffer : List ℕ) (n : Counts) : Type 0 where
+  pub kept : Kept (siteOf os cs) k (metAfter inUse (siteOf os cs) j) list buffer n
   pub agenda : Agenda (siteOf os cs) j work
   pub reached : Reached inUse (siteOf os cs) (cutOff inUse (siteOf os cs) k) (firstEvents (siteOf os cs) j)
+  pub fits : 2 * length (metAfter inUse (siteOf os cs) j) ≤ length buffer
   pub list-long : length list ≡ length list₀
   pub work-long : length work ≡ length work₀
   pub buffer-long : length buffer ≡ length buffer₀
 
-pub searching-start : {os cs : List ℕ} {k : ℕ} {list work buffer : List ℕ} → Sound os cs → list ≡ replicate (length list) 0 → work ≡ replicate (length work) 0 → buffer ≡ replicate (length buffer) 0 → 10240 ≤ length work
-    → Searching os cs k 0 list work buffer list work buffer (record { found = 0; met = 0 })
+pub searching-start : {os cs : List ℕ} {k : ℕ} {list work buffer : List ℕ} → list ≡ zeros list → buffer ≡ zeros buffer → Agenda (siteOf os cs) 0 work → Searching os cs k 0 list work buffer list work buffer (record { found = 0; met = 0 })
 unfolding metAfter metFrom
-searching-start {os} {cs} {k} s l w b h = record {
+searching-start {os} {cs} {k} l b A = record {
   kept = kept-start (siteOf os cs) k l b;
-  agenda = agenda-start (siteOf os cs) w h (omega (arith, contexts-are s, s .few));
+  agenda = A;
   reached = λ f i. absurd (not-nil i);
+  fits = omega arith;
   list-long = refl;
   work-long = refl;
   buffer-long = refl;
 }
 
-module _ {os cs : List ℕ} (s : Sound os cs) {k j : ℕ} {list₀ work₀ buffer₀ list work buffer : List ℕ} {t : Tally} (w : Searching os cs k j list₀ work₀ buffer₀ list work buffer t) where
-  pub now-proper : Proper (siteOf os cs) (metAfter inUse (siteOf os cs) j)
-  now-proper = after-proper (siteOf os cs) (sound-rises s) j
+module _ {os cs : List ℕ} (s : Sound os cs) {k j : ℕ} {list₀ work₀ buffer₀ list work buffer : List ℕ} {n : Counts} (w : Searching os cs k j list₀ work₀ buffer₀ list work buffer n) where
+  -- ---- an event is due
 
-  -- ---- the search goes on
+  module _ {c : Context} {p : Place} (d : nextIs (dueOf (siteOf os cs) k j) ≡ At c p) where
+    due-coming : Coming (siteOf os cs) j c p
+    due-coming = coming (siteOf os cs) j (due-at (siteOf os cs) k j d .0)
 
-  module _ {c : Context} {p : Place} (m : Coming (siteOf os cs) j c p) where
     pub more-left : j < length cs
-    more-left = omega (arith, m .more, events-many s)
+    more-left = omega (arith, due-coming .more, events-many s)
 
-    pub searching-next : reaches (cutOf inUse (siteOf os cs) k (metAfter inUse (siteOf os cs) j)) (ceilingAt inUse (siteOf os cs) (eventIs c p)) ≡ true
-        → {list′ work′ buffer′ : List ℕ} {t′ : Tally} → Kept (siteOf os cs) k (metAfter inUse (siteOf os cs) (j + 1)) list′ buffer′ t′ → Agenda (siteOf os cs) (j + 1) work′
-        → length list′ ≡ length list → length work′ ≡ length work → length buffer′ ≡ length buffer → Searching os cs k (j + 1) list₀ work₀ buffer₀ list′ work′ buffer′ t′
+    next-reached : Reached inUse (siteOf os cs) (cutOff inUse (siteOf os cs) k) (firstEvents (siteOf os cs) (j + 1))
     unfolding metAfter
-    searching-next r kept agenda a b d =
+    next-reached =
         let site = siteOf os cs in
+        let m = due-coming in
         let e : drop j (eventsOf inUse site) ≡ eventIs c p ∷ drop (suc j) (eventsOf inUse site) = left-is site j (m .more) ∙ ap (λ (x : Event). x ∷ drop (suc j) (eventsOf inUse site)) (sym (m .event)) in
-        let g = loop-goes in-use-lawful (sound-rises s) k (firstEvents site j) (drop j (eventsOf inUse site)) (split-at site j) (w .reached) (eventIs c p) (drop (suc j) (eventsOf inUse site)) e r in
-        let n : firstEvents site (j + 1) ≡ firstEvents site j ++ eventIs c p ∷ [] = rw (add-one j) (one-more site j (m .more) ∙ ap (λ (x : Event). firstEvents site j ++ x ∷ []) (sym (m .event))) in
-        record { kept = kept; agenda = agenda; reached = rw n g; list-long = a ∙ w .list-long; work-long = b ∙ w .work-long; buffer-long = d ∙ w .buffer-long }
+        let g = loop-goes in-use-lawful (sound-rises s) k (firstEvents site j) (drop j (eventsOf inUse site)) (split-at site j) (w .reached) (eventIs c p) (drop (suc j) (eventsOf inUse site)) e (due-at site k j d .1) in
+        let f : firstEvents site (j + 1) ≡ firstEvents site j ++ eventIs c p ∷ [] = rw (add-one j) (one-more site j (m .more) ∙ ap (λ (x : Event). firstEvents site j ++ x ∷ []) (sym (m .event))) in
+        rw f g
 
-  -- ---- the search ends
-
-  ends : Unreached inUse (siteOf os cs) (cutOf inUse (siteOf os cs) k (metAfter inUse (siteOf os cs) j)) (drop j (eventsOf inUse (siteOf os cs))) → Searched (siteOf os cs) k list buffer (record { found = t .found; events = j; met = t .met })
-  unfolding metAfter
-  ends u =
-      let site = siteOf os cs in
-      let a = loop-ends in-use-lawful (sound-rises s) k (firstEvents site j) (drop j (eventsOf inUse site)) (split-at site j) (w .reached) u in
-      record {
-        listed = rw (a .listed) (w .kept .listed .holds);
-        trailed = λ h. rw (a .trailed) (w .kept .trailed (omega (arith, w .kept .met)));
-        found = rw (a .listed) (w .kept .listed .count);
-        events = rw (a .events) (sym (done-length s (w .agenda)));
-        met = rw (a .trailed) (w .kept .met);
+    module _ {list′ buffer′ : List ℕ} {n′ : Counts} (kept : Kept (siteOf os cs) k (metAfter inUse (siteOf os cs) (j + 1)) list′ buffer′ n′) where
+      -- one event more
+      pub searching-next : {work′ : List ℕ} → n′ .met ≤ length buffer′ / 2 → Agenda (siteOf os cs) (j + 1) work′ → length list′ ≡ length list → length work′ ≡ length work → length buffer′ ≡ length buffer → Searching os cs k (j + 1) list₀ work₀ buffer₀ list′ work′ buffer′ n′
+      searching-next h agenda a b e = record {
+        kept = kept;
+        agenda = agenda;
+        reached = next-reached;
+        fits = omega (arith, kept .met);
+        list-long = a ∙ w .list-long;
+        work-long = b ∙ w .work-long;
+        buffer-long = e ∙ w .buffer-long;
       }
 
-  -- where all events are done
-  pub over-ends : nextIs (getElem? (eventsOf inUse (siteOf os cs)) j) ≡ Over → Searched (siteOf os cs) k list buffer (record { found = t .found; events = j; met = t .met })
-  over-ends e =
-      let site = siteOf os cs in
-      by-le (length (eventsOf inUse site)) j
-      (λ h. ends (rw (drop-of-length-le (eventsOf inUse site) h) (λ f i. absurd (not-nil i))))
-      (λ h.
-      let z : At (record { 0 = eventAt site j .context }) (record { 0 = eventAt site j .place }) ≡ Over = rw (getElem?-is (eventsOf inUse site) j noEvent h) at e in
-      let n : _≡_ {A = ℕ} 0 1 = cc z in absurd (omega arith))
+      -- what is met has no room: then the whole trail has none
+      pub searching-full : length buffer′ / 2 < n′ .met → Searched (siteOf os cs) k list′ buffer′ (answer.Refused 8 0)
+      unfolding metAfter
+      searching-full h =
+          let site = siteOf os cs in
+          let t = loop-prefix in-use-lawful (sound-rises s) k (firstEvents site (j + 1)) (drop (j + 1) (eventsOf inUse site)) (split-at site (j + 1)) next-reached in
+          let l = ap length t ∙ length-append (metAfter inUse site (j + 1)) _ in
+          record {
+            full = λ z. refl;
+            told = λ z. absurd (omega (arith, l, kept .met));
+            listed = λ z. absurd (omega (arith, l, kept .met));
+            trailed = λ z. absurd (omega (arith, l, kept .met));
+          }
 
-  -- where the next one is below the cut-off
-  pub below-ends : {c : Context} {p : Place} → Coming (siteOf os cs) j c p → reaches (cutOf inUse (siteOf os cs) k (metAfter inUse (siteOf os cs) j)) (ceilingAt inUse (siteOf os cs) (eventIs c p)) ≡ false → Searched (siteOf os cs) k list buffer (record { found = t .found; events = j; met = t .met })
-  below-ends {c} {p} m f =
+  -- ---- none is due: the search has its answer
+
+  pub searching-end : nextIs (dueOf (siteOf os cs) k j) ≡ Over → Searched (siteOf os cs) k list buffer (answer.Listed (n .found) j (n .met))
+  unfolding metAfter
+  searching-end d =
       let site = siteOf os cs in
-      let e = left-is site j (m .more) in
-      let split : firstEvents site j ++ eventAt site j ∷ drop (suc j) (eventsOf inUse site) ≡ eventsOf inUse site = rw (← e) (split-at site j) in
-      ends (rw e (unreached in-use-lawful (sound-rises s) (firstEvents site j) (eventAt site j) (drop (suc j) (eventsOf inUse site)) split _ (rw (m .event) at f)))
+      let a = loop-ends in-use-lawful (sound-rises s) k (firstEvents site j) (drop j (eventsOf inUse site)) (split-at site j) (w .reached) (due-end site k j (sound-rises s) d) in
+      let found = rw (← (a .listed)) at (w .kept .listed .count) in
+      let events = sym (ap length (a .events) ∙ done-length s (w .agenda)) in
+      let met = rw (← (a .trailed)) at (w .kept .met) in
+      record {
+        full = λ h. absurd (omega (arith, w .fits, ap length (a .trailed)));
+        told = λ h i. answer.Listed (found i) (events i) (met i);
+        listed = λ h. rw (a .listed) (w .kept .listed .holds);
+        trailed = λ h. rw (a .trailed) (w .kept .trailed (w .fits));
+      }

@@ -1,4 +1,5 @@
--- Checks one after the other: what a chain tells where one refuses, where all accept, and what tables that pass have.
+-- Checks one after the other: what a chain tells where one refuses, and where all accept.
+-- Tables that pass 1 to 5 are sound.
 use mathlib.Core.Bool.{Bool, true, false, _||_}
 use mathlib.Core.List.{List}
 use mathlib.Core.Path.{_≡_, refl, sym, _∙_}

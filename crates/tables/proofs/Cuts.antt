@@ -1,5 +1,6 @@
--- Tables and sites, both ways.
-use mathlib.Core.Path.{_≡_, refl, sym, ap, ap₂}
+-- Tables and sites, both ways: the site of sound tables has these tables,
+-- and the tables of a site have this site.
+use mathlib.Core.Path.{_≡_, refl, sym, subst, ap, ap₂, _∙_}
 use mathlib.Core.List.{List, [], _∷_, _++_, append-assoc}
 use Prim.Native.Nat.{ℕ, zero, suc, _+_, _≤_, _<_}
 use native.Mathlib.Nat.{not-suc-le-zero, le-of-suc-le-suc}
@@ -7,9 +8,9 @@ use native.Mathlib.Numerals.{add-one}
 use native.Mathlib.Omega.{arith}
 use lib.ListN.{length, getD, drop, length-append, drop-of-length-le}
 use lib.Seq.{slice, take-append-seam, drop-append-seam, take-append-add, length-slice}
-use Rattle.site.specs.Tables.{siteOf, offsetsFrom, allCodes}
+use Rattle.site.specs.Tables.{siteOf, offsetsFrom, offsetsOf, allCodes}
 use Rattle.tables.specs.Sound.{Sound}
-use Rattle.tables.proofs.Sound.{offset-last, offset-rises, offset-within}
+use Rattle.tables.proofs.Sound.{offset-first, offset-last, offset-rises, offset-within}
 
 -- offsets that rise to n
 abbrev pub Cut : List ℕ → ℕ → Type 0
@@ -50,6 +51,14 @@ codes-back a (b ∷ os) cs c = rw (codes-back b os cs (c .2)) (slice-rest a b cs
     slice-rest (suc a) (suc b) [] h = refl
     slice-rest (suc a) (suc b) (x ∷ l) h = slice-rest a b l (le-of-suc-le-suc h)
 
+-- so the codes of sound tables are those of their site
+codes-of : (os cs : List ℕ) → Sound os cs → allCodes (siteOf os cs) ≡ cs
+codes-of [] cs S = absurd (omega (arith, S .some))
+codes-of (a ∷ os) cs S = codes-back a os cs (sound-cut S) ∙ ap (λ (n : ℕ). drop n cs) (offset-first S)
+
+pub all-codes : {os cs : List ℕ} → Sound os cs → allCodes (siteOf os cs) ≡ cs
+all-codes {os} {cs} S = codes-of os cs S
+
 -- the tables of a site cut it again
 middle : (p c q : List ℕ) → slice (length p) (length p + length c) (p ++ (c ++ q)) ≡ c
 middle p c q = rw (take-append-add p (c ++ q) (length c), take-append-seam c q, drop-append-seam p c)
@@ -59,3 +68,11 @@ unfolding offsetsFrom siteOf allCodes
 site-back p [] = refl
 site-back p (c ∷ []) = ap (λ (l : List ℕ). l ∷ []) (middle p c [])
 site-back p (c ∷ d ∷ site) = ap₂ _∷_ (middle p c (d ++ allCodes site)) (rw (length-append, append-assoc) at (site-back (p ++ c) (d ∷ site)))
+
+-- sound tables are the tables of their site
+pub tables-back : {os cs : List ℕ} → Sound os cs → (offsetsOf (siteOf os cs) ≡ os) × (allCodes (siteOf os cs) ≡ cs)
+tables-back {os} {cs} s = back os (sound-cut s) (offset-first s)
+  where
+    back : (os : List ℕ) → Cut os (length cs) → getD os 0 0 ≡ 0 → (offsetsOf (siteOf os cs) ≡ os) × (allCodes (siteOf os cs) ≡ cs)
+    back [] c z = absurd c
+    back (a ∷ os) c z = let e : a ≡ 0 = z in (subst (λ (x : ℕ). offsetsFrom x (siteOf (a ∷ os) cs) ≡ a ∷ os) e (offsets-back a os cs c), codes-back a os cs c ∙ ap (λ (x : ℕ). drop x cs) e)

@@ -1,4 +1,5 @@
 -- What `earliest` means: `Fine` exactly if every index keeps the rule, and else the earliest that breaks it, with its number.
+-- It holds of any rule.
 use mathlib.Core.Path.{_≡_, refl, _∙_}
 use mathlib.Core.Logic.{⊎-elim}
 use Prim.Native.Nat.{ℕ, zero, suc, _+_, _-_, _≤_, _<_}
@@ -14,7 +15,7 @@ abbrev pub Kept : (ℕ → ℕ) → ℕ → ℕ → Type 0
 Kept rule a e = (j : ℕ) → a ≤ j → j < e → rule j ≡ 0
 
 -- k is the earliest index from a up to e that breaks the rule, which refuses it with b
-pub record Breaks (rule : ℕ → ℕ) (a e b k : ℕ) : Type 0 where
+pub record FirstBreak (rule : ℕ → ℕ) (a e b k : ℕ) : Type 0 where
   pub from : a ≤ k
   pub below : k < e
   pub number : rule k ≡ b
@@ -40,7 +41,7 @@ module _ (rule : ℕ → ℕ) where
       (λ z. kept-more z (λ j h l. fine-n (suc i) n (rw (eq-eqb (rule i) 0 z) at f) j h (omega arith)))
       (λ z. let g = rw (ne-eqb (rule i) 0 z) at f in let e : _≡_ {A = ℕ} 0 1 = cc g in absurd (omega arith))
 
-  broken-n : (i n b k : ℕ) → firstOf rule i n ≡ Refused b k → Breaks rule i (i + n) b k
+  broken-n : (i n b k : ℕ) → firstOf rule i n ≡ Refused b k → FirstBreak rule i (i + n) b k
   unfolding firstOf
   broken-n i zero b k f = let e : _≡_ {A = ℕ} 0 1 = cc in absurd (omega arith)
   broken-n i (suc n) b k f =
@@ -68,11 +69,11 @@ module _ (rule : ℕ → ℕ) (a e : ℕ) (h : a ≤ e) where
   unfolding earliest firstOf
   means-fine k = skip e h (le-refl e) k ∙ rw (sub-self e)
 
-  pub refused-means : {b k : ℕ} → earliest rule a e ≡ Refused b k → Breaks rule a e b k
+  pub refused-means : {b k : ℕ} → earliest rule a e ≡ Refused b k → FirstBreak rule a e b k
   unfolding earliest
   refused-means {b} {k} f = rw (add-sub-of-le h) at (broken-n rule a (e - a) b k f)
 
-  pub means-refused : {b k : ℕ} → Breaks rule a e b k → earliest rule a e ≡ Refused b k
+  pub means-refused : {b k : ℕ} → FirstBreak rule a e b k → earliest rule a e ≡ Refused b k
   unfolding earliest firstOf
   means-refused {b} {k} r =
       let x : e - k ≡ suc (e - suc k) = omega (arith, r .below) in

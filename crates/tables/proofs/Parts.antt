@@ -1,4 +1,5 @@
--- The walk of `check_codes` from one context to the next, over offsets that keep their rules.
+-- The walk of `check_codes` from one context to the next, over offsets that keep their rules:
+-- such offsets rise from 0 to the codes' length, and a context begins at each of them.
 use mathlib.Core.Path.{_≡_, refl, sym, _∙_}
 use mathlib.Core.Bool.{Bool, true, false, cond}
 use mathlib.Core.List.{List, [], _∷_}
@@ -14,7 +15,7 @@ use Rattle.tables.specs.Earliest.{firstOf, earliest}
 use Rattle.tables.specs.Rules.{endRule, offsetRule, codeRule, partRule, member}
 use Rattle.tables.specs.declared.Check.{Check}
 use Rattle.tables.specs.declared.Check.the-variants.{Fine, Refused}
-use Rattle.tables.proofs.Meaning.{Kept, Breaks, fine-means, skip, refused-means, means-refused, earliest-ext}
+use Rattle.tables.proofs.Meaning.{Kept, FirstBreak, fine-means, skip, refused-means, means-refused, earliest-ext}
 
 member-here : (xs : List ℕ) (i : ℕ) → i < length xs → member (getD xs i 0) xs ≡ true
 unfolding member
@@ -113,5 +114,5 @@ module _ {os cs : List ℕ} {c : ℕ} (some : 0 < length os) (fine : earliest (o
       pub parted-found : {b k : ℕ} → r ≡ Refused b k → r ≡ earliest (codeRule os cs) 0 (length cs)
       parted-found {b} {k} f =
           let m = refused-means (codeRule os cs) _ _ part-ends (agree q ∙ f) in
-          let wide : Breaks (codeRule os cs) (getD os c 0) (length cs) b k = record { from = m .from; below = omega (arith, part-within); number = m .number; some = m .some; earlier = m .earlier } in
+          let wide : FirstBreak (codeRule os cs) (getD os c 0) (length cs) b k = record { from = m .from; below = omega (arith, part-within); number = m .number; some = m .some; earlier = m .earlier } in
           f ∙ sym (w .same ∙ means-refused (codeRule os cs) _ _ (le-trans part-ends part-within) wide)

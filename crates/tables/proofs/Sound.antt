@@ -1,4 +1,5 @@
--- What sound tables are: their site rises, its contexts are parts of the codes, and its sizes and codes are small.
+-- What sound tables are: their site rises, its contexts are parts of the codes, and its sizes are small.
+-- Callers use these laws and never open the checks.
 use mathlib.Core.List.{List}
 use mathlib.Core.Path.{_≡_, sym, _∙_}
 use Prim.Native.Nat.{ℕ, suc, _+_, _-_, _≤_, _<_, zero-le}
@@ -13,7 +14,7 @@ use Rattle.words.proofs.Lists.{slice-is}
 use Rattle.order.specs.Order.{Sorted}
 use Rattle.site.specs.Site.{Rising, codesOf, sizeOf}
 use Rattle.site.specs.Tables.{siteOf}
-use Rattle.site.proofs.Tables.{site-length, site-codes, site-rises}
+use Rattle.site.proofs.Tables.{site-length, site-codes, site-rises, slice-at}
 use Rattle.tables.specs.Rules.{codeRule, codeRuleBy}
 use Rattle.tables.specs.Sound.{Sound}
 use Rattle.tables.proofs.Meaning.{fine-means}
@@ -39,6 +40,11 @@ module _ {os cs : List ℕ} (s : Sound os cs) where
 
   rule-kept : (k : ℕ) → k < length cs → codeRule os cs k ≡ 0
   rule-kept k h = fine-means (codeRule os cs) 0 (length cs) zero-le (s .rising) k zero-le h
+
+  -- a code is at most 4095
+  pub code-small : (k : ℕ) → k < length cs → getD cs k 0 < 4096
+  unfolding codeRule codeRuleBy
+  code-small k h = by-le (getD cs k 0) 4095 (λ l. omega arith) (λ l. let z : _≡_ {A = ℕ} 4 0 = rw (lt-ltb _ _ l) at (rule-kept k h) in absurd (omega arith))
 
   steps : (i n : ℕ) → suc i < length os → getD os i 0 ≤ n → suc n < getD os (suc i) 0 → getD cs n 0 < getD cs (suc n) 0
   unfolding codeRule codeRuleBy
@@ -67,6 +73,11 @@ module _ {os cs : List ℕ} (s : Sound os cs) where
 
   pub size-small : (i : ℕ) → i + 1 < length os → sizeOf (siteOf os cs) i ≤ 4096
   size-small i h = omega (arith, s .short, context-size i h, offset-within (i + 1) h)
+
+  pub place-small : (i n : ℕ) → i + 1 < length os → n < sizeOf (siteOf os cs) i → getD (codesOf (siteOf os cs) i) n 0 < 4096
+  place-small i n h k =
+      let l : getD os i 0 + n < getD os (i + 1) 0 = omega (arith, k, context-size i h) in
+      rw (context-codes i h, slice-at (getD os i 0) (getD os (i + 1) 0) cs n l) (code-small (getD os i 0 + n) (omega (arith, offset-within (i + 1) h)))
 
   -- two contexts can be walked
   pub two-parts : {xs ys : List ℕ} (i j : ℕ) → i + 1 < length os → j + 1 < length os → xs ≡ codesOf (siteOf os cs) i → ys ≡ codesOf (siteOf os cs) j → (Sorted ltb xs × Sorted ltb ys) × ((length xs ≤ 4096) × (length ys ≤ 4096))

@@ -10,6 +10,15 @@ use Rattle.tables.specs.declared.Check.{Check}
 use Rattle.tables.specs.declared.Check.the-variants.{Fine, Refused}
 
 infixr 20 _andThen_
+-- the paper's number of an answer, and its place; 0 where nothing is refused
+abbrev pub numberOf : Check → ℕ
+numberOf Fine = 0
+numberOf (Refused n p) = n
+
+abbrev pub placeOf : Check → ℕ
+placeOf Fine = 0
+placeOf (Refused n p) = p
+
 -- refused with the number n, at place 0, where a test holds
 abbrev pub when : Bool → ℕ → Check → Check
 when b n next = cond b (Refused n 0) next

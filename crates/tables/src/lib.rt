@@ -1,4 +1,5 @@
-// The lent tables: refusals 1 to 5, each with the earliest place at which its rule is broken, and a context as a part of the codes.
+// The lent tables, offsets and codes as words: refusals 1 to 5, each with the earliest place at which its rule is broken,
+// and a context's codes as a part of the lent codes.
 ghost use mathlib.Core.Path.{_≡_};
 ghost use Prim.Native.Nat.{_+_, _≤_, _<_};
 ghost use lib.ListN.{length};
@@ -10,12 +11,13 @@ ghost use Rattle.tables.specs.Checks.{sizesCheck, offsetsCheck, codesChe
 ghost use Rattle.tables.specs.Rules.{endRule, offsetRule, codeRule, partRule};
 use site::Context;
 
+// Nothing refused, or the paper's number and place of a refusal.
 pub enum Check {
     Fine,
     Refused { number: u16, place: usize },
 }
 
-// The last offset is the codes' length: what is broken at i, or 0.
+// 3 where the offset i is the last and not the codes' length, or 0.
 fn end_rule(offsets: &[u16], codes_len: usize, i: usize) -> u16
     requires { ⌜ i < length (now offsets) ⌝ }
     ensures { λ r. ⌜ r ≡ endRule (now (offsets .entry)) «codes_len» i ⌝ }
@@ -28,7 +30,7 @@ fn end_rule(offsets: &[u16], codes_len: usize, i: usize) -> u16
     }
 }
 
-// What is broken at the offset i, or 0.
+// 3 where the offset i is the first and not 0, below the one before, or the last and not the codes' length, or 0.
 fn offset_rule(offsets: &[u16], codes_len: usize, i: usize) -> u16
     requires { ⌜ i < length (now offsets) ⌝ }
     ensures { λ r. ⌜ r ≡ offsetRule (now (offsets .entry)) «codes_len» i ⌝ }
@@ -50,7 +52,8 @@ fn offset_rule(offsets: &[u16], codes_len: usize, i: usize) -> u16
     }
 }
 
-pub fn check_offsets(offsets: &[u16], codes_len: usize) -> Check
+// 3, at the earliest offset that breaks its rule.
+fn check_offsets(offsets: &[u16], codes_len: usize) -> Check
     ensures { λ r. ⌜ r ≡ offsetsCheck (now (offsets .entry)) «codes_len» ⌝ }
 {
     let mut i: usize = 0;
@@ -67,59 +70,61 @@ pub fn check_offsets(offsets: &[u16], codes_len: usize) -> Check
     Check::Fine
 }
 
-// What is broken at the code k of the part that begins at `from`, or 0.
-fn code_rule(codes: &[u16], from: usize, k: usize) -> u16
-    requires { ⌜ (from ≤ k) × (k < length (now codes)) ⌝ }
-    ensures { λ r. ⌜ r ≡ partRule from (now (codes .entry)) k ⌝ }
+// 4 where the code i is above 4,095, 5 where it is not above the one before it in the part that begins at `from`, or 0.
+fn code_rule(codes: &[u16], from: usize, i: usize) -> u16
+    requires { ⌜ (from ≤ i) × (i < length (now codes)) ⌝ }
+    ensures { λ r. ⌜ r ≡ partRule from (now (codes .entry)) i ⌝ }
 {
-    let x = codes[k];
+    let x = codes[i];
     if x > 4095 {
         4
-    } else if k == from {
+    } else if i == from {
         0
     } else {
-        let before = codes[k - 1];
+        let before = codes[i - 1];
         if before < x { 0 } else { 5 }
     }
 }
 
+// 4 or 5, at the earliest code of a part that breaks its rule.
 fn check_part(codes: &[u16], from: usize, to: usize) -> Check
     requires { ⌜ (from ≤ to) × (to ≤ length (now codes)) ⌝ }
     ensures { λ r. ⌜ r ≡ earliest (partRule from (now (codes .entry))) from to ⌝ }
 {
-    let mut k = from;
-    while k < to {
-        let broken = code_rule(codes, from, k);
+    let mut i = from;
+    while i < to {
+        let broken = code_rule(codes, from, i);
         if broken != 0 {
             return Check::Refused {
                 number: broken,
-                place: k,
+                place: i,
             };
         }
-        k += 1;
+        i += 1;
     }
     Check::Fine
 }
 
-pub fn check_codes(offsets: &[u16], codes: &[u16]) -> Check
+// 4 or 5, at the earliest code that breaks its rule: context after context.
+fn check_codes(offsets: &[u16], codes: &[u16]) -> Check
     requires { ⌜ 0 < length (now offsets) ⌝ }
     requires { ⌜ offsetsCheck (now offsets) (length (now codes)) ≡ Check.Fine ⌝ }
     ensures { λ r. ⌜ r ≡ codesCheck (now (offsets .entry)) (now (codes .entry)) ⌝ }
 {
-    let mut c: usize = 0;
-    while c + 1 < offsets.len() {
-        let from = offsets[c] as usize;
-        let to = offsets[c + 1] as usize;
+    let mut i: usize = 0;
+    while i + 1 < offsets.len() {
+        let from = offsets[i] as usize;
+        let to = offsets[i + 1] as usize;
         let found = check_part(codes, from, to);
         let Check::Fine = found else {
             return found;
         };
-        c += 1;
+        i += 1;
     }
     Check::Fine
 }
 
-// The sizes: 1 for k, 2 for the tables' lengths.
+// 1 where k is 0 or above 64, 2 where the tables have too few or too many words.
 fn check_sizes(k: u16, offsets_len: usize, codes_len: usize) -> Check
     ensures { λ r. ⌜ r ≡ sizesCheck k «offsets_len» «codes_len» ⌝ }
 {
@@ -156,7 +161,7 @@ fn check_sizes(k: u16, offsets_len: usize, codes_len: usize) -> Check
     Check::Fine
 }
 
-// The checks of k and the tables, 1 to 5, in their order.
+// The checks of k and the tables in their order: 1, 2, 3, then 4 and 5 together.
 pub fn check_tables(k: u16, offsets: &[u16], codes: &[u16]) -> Check
     ensures { λ r. ⌜ r ≡ tablesCheck k (now (offsets .entry)) (now (codes .entry)) ⌝ }
 {
@@ -171,7 +176,7 @@ pub fn check_tables(k: u16, offsets: &[u16], codes: &[u16]) -> Check
     check_codes(offsets, codes)
 }
 
-// The codes of a context: a part of the codes.
+// The codes of a context: a part of the lent codes, handed back to the caller.
 pub fn context<'a>(offsets: &[u16], codes: &'a [u16], c: Context) -> &'a [u16]
     requires { ⌜ Sound (now offsets) (now codes) × (c .0 + 1 < length (now offsets)) ⌝ }
     ensures { λ r. ⌜ now r ≡ codesOf (siteOf (now (offsets .entry)) (now (codes .entry))) (c .0) ⌝ }

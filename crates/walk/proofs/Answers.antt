@@ -1,4 +1,5 @@
--- What the leaf's answer tells of the first shared code.
+-- What the leaf's answer tells of the first shared code: its place in the first context, or that there is none.
+-- Callers use these laws and never open the answer's definition.
 use mathlib.Core.List.{List}
 use mathlib.Core.Path.{_≡_, sym, _∙_}
 use Prim.Native.Nat.{ℕ, _<_}

@@ -1,23 +1,14 @@
-use Rattle.agenda.specs.Next.{betterOf}
-use Rattle.words.proofs.Tests.{tests}
-use Rattle.words.proofs.Product.{below}
+-- `agenda::better` meets its contract: each return is an arm of `betterOf`.
+use Rattle.agenda.proofs.Scanning.{better-first, better-second}
 use borrow.Author.Needs.{needs}
 use Rattle.agenda.proofs.better.Statement.{statement}
 use Rattle.agenda.proofs.better.Tie as tie
 
-mul-x : tie.Need-mul-x
-mul-x c = record { fits = below 32 (search needs) (search needs) }
-
-mul-y : tie.Need-mul-y
-mul-y c = record { fits = below 32 (search needs) (search needs) }
-
 returns : tie.Need-returns
-unfolding betterOf
-returns c = search tests
+returns c = better-second _ _ (c .before .below .ensures) (c .if1 .taken)
 
 returns-2 : tie.Need-returns-2
-unfolding betterOf
-returns-2 c = search tests
+returns-2 c = better-first _ _ (c .before .below .ensures) (c .if1 .left)
 
 pub better-spec : {M : Type 1} → statement M
-better-spec = tie.close (tie.spec mul-x mul-y returns returns-2)
+better-spec = tie.close (tie.spec (λ c κs. search needs) returns returns-2)

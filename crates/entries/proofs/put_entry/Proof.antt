@@ -1,3 +1,4 @@
+-- `entries::put_entry` meets its contract: one store a word.
 use Rattle.words.proofs.Lists.{four-sets}
 use lib.ListN.{length-set}
 use native.Mathlib.Omega.{arith}

@@ -1,19 +1,23 @@
-use Rattle.join.proofs.Ran.{join-declined, join-found}
+use Rattle.join.proofs.Outcomes.{join-refused, join-found}
 use Rattle.join.proofs.Checks.{accepted}
 use mathlib.Core.Path.{sym, _∙_}
-use native.Mathlib.Omega.{arith}
 use borrow.Author.Needs.{needs}
 use Rattle.join.proofs.join.Statement.{statement}
 use Rattle.join.proofs.join.Tie as tie
 
 returns : tie.Need-returns
-returns c = let a = c .before .before .before .before .before .before .before .before .before .args in join-declined (a .k) (a .offsets .now) (a .codes .now) (a .list .now) (a .work .now) (a .trail .now) (c .before .before .before .check-call .ensures) (c .before .checked .given .1)
+returns c = let a = c .before .before .before .before .before .before .before .before .before .args in join-refused (a .k) (a .offsets .now) (a .codes .now) (a .list .now) (a .work .now) (a .trail .now) (c .before .before .before .check-call .ensures) (c .before .checked .given .1)
 
-run-requires : tie.Need-run-requires
-run-requires c κs = let w = accepted _ _ _ _ _ (sym (c .before .before .before .before .before .check-call .ensures) ∙ c .before .before .before .enum-told .given .1) in (w .sound, ((w .some, w .few), (w .list-room, w .work-room)))
+search-requires : tie.Need-search-requires
+search-requires c κs = let w = accepted _ _ _ _ _ (sym (c .before .before .before .before .before .check-call .ensures) ∙ c .before .before .before .enum-told .given .1) in (w .sound, ((w .some, w .few), (w .list-room, w .work-room)))
 
 returns-2 : tie.Need-returns-2
-returns-2 c = let a = c .before .before .before .before .before .before .before .before .before .before .before .before .before .before .before .before .before .before .args in join-found (a .k) (a .offsets .now) (a .codes .now) (a .list .now) (a .work .now) (a .trail .now) (c .before .before .before .before .before .before .before .before .before .before .before .before .check-call .ensures) (c .before .before .before .before .before .before .before .before .before .before .enum-told .given .1) (c .before .before .before .before .before .before .run .ensures)
+returns-2 c =
+    let f = c .before .before .before .before .before .before in
+    let t = f .before .before .before .before in
+    let k = t .before .before in
+    let a = k .before .before .before .before .before .before .args in
+    join-found (a .k) (a .offsets .now) (a .codes .now) (a .list .now) (a .work .now) (a .trail .now) (k .check-call .ensures) (t .enum-told .given .1) (f .search .ensures)
 
 pub join-spec : {M : Type 1} → statement M
 join-spec =
@@ -23,7 +27,7 @@ join-spec =
     (λ c. search needs)
     returns
     (λ c. search needs)
-    run-requires
+    search-requires
     (λ c. search needs)
     (λ c. search needs)
     (λ c. search needs)

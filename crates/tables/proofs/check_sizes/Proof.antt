@@ -1,10 +1,8 @@
+-- `tables::check_sizes` meets its contract: each return is an arm of `sizesCheck`.
 use Rattle.tables.specs.Checks.{sizesCheck}
 use Rattle.words.proofs.Tests.{tests}
-use borrow.Author.Needs.{needs}
 use Rattle.tables.proofs.check_sizes.Statement.{statement}
 use Rattle.tables.proofs.check_sizes.Tie as tie
-use Rattle.tables.proofs.check_sizes.Reads as reads
-use Rattle.tables.proofs.check_sizes.Lts as lts
 
 returns : tie.Need-returns
 unfolding sizesCheck

@@ -1,3 +1,4 @@
+-- `tables::code_rule` meets its contract: each return is an arm of the rule.
 use Rattle.words.proofs.Tests.{tests}
 use Rattle.tables.specs.Rules.{partRule, codeRuleBy}
 use borrow.Author.Needs.{needs}

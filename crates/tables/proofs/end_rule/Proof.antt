@@ -1,3 +1,4 @@
+-- `tables::end_rule` meets its contract: each return is an arm of the rule.
 use Rattle.tables.specs.Rules.{endRule}
 use native.Mathlib.Omega.{arith}
 use Rattle.words.proofs.Tests.{tests}

@@ -1,3 +1,4 @@
+-- `tables::offset_rule` meets its contract: each return is an arm of the rule.
 use Rattle.tables.specs.Rules.{offsetRule}
 use Rattle.words.proofs.Tests.{tests}
 use borrow.Author.Needs.{needs}

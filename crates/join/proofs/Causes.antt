@@ -1,0 +1,130 @@
+-- What the checks refuse has its cause, and what has a cause is refused.
+-- For 1 to 5 it cites the meaning of the tables' checks; 6, 7 and 8 are tests of one number each. Then: the buffers after a refusal.
+use mathlib.Core.List.{List, [], _∷_}
+use mathlib.Core.Logic.{⊎-elim}
+use mathlib.Core.Path.{_≡_, refl, sym, _∙_}
+use Prim.Native.Nat.{ℕ, _*_, _≤_, _<_}
+use native.Mathlib.Omega.{arith}
+use lib.ListN.{length}
+use borrow.Author.Tests.{lt-ltb, le-ltb}
+use Rattle.site.specs.Measure.{inUse}
+use Rattle.site.specs.Events.{trail as trailOf}
+use Rattle.site.specs.Tables.{siteOf}
+use Rattle.words.proofs.Split.{by-le}
+use Rattle.tables.specs.Checks.{tablesCheck}
+use Rattle.tables.specs.Refusals.{Breaks, wrong-k, wrong-sizes, wrong-offset, large-code, code-falls}
+use Rattle.tables.specs.declared.Check.{Check}
+use Rattle.tables.specs.declared.Check.the-variants as check
+use Rattle.tables.proofs.Refusals.{refused-exactly, fine-exactly}
+use Rattle.entries.specs.Entries.{width}
+use Rattle.search.specs.Outcome.{Tells, zeros}
+use Rattle.search.specs.declared.Answer.{Answer}
+use Rattle.search.proofs.Answers.{tells-refused}
+use Rattle.join.specs.Join.{roomsCheck, callCheck, Joins}
+use Rattle.join.specs.Refusals.{Cause, tables, list-room, work-room, trail-room}
+use Rattle.join.proofs.Outcomes.{refused-only}
+
+-- ---- the checks
+
+module _ (k : ℕ) (os cs : List ℕ) (list work : ℕ) where
+  by-tables : {n p : ℕ} → tablesCheck k os cs ≡ check.Refused n p → callCheck k os cs list work ≡ check.Refused n p
+  unfolding callCheck
+  by-tables e = rw e
+
+  module _ (e : tablesCheck k os cs ≡ check.Fine) where
+    by-list : list < width * k → callCheck k os cs list work ≡ check.Refused 6 0
+    unfolding callCheck roomsCheck
+    by-list h = rw (e, lt-ltb list (width * k) h)
+
+    by-work : width * k ≤ list → work < 10240 → callCheck k os cs list work ≡ check.Refused 7 0
+    unfolding callCheck roomsCheck
+    by-work h w = rw (e, le-ltb list (width * k) h, lt-ltb work 10240 w)
+
+    by-none : width * k ≤ list → 10240 ≤ work → callCheck k os cs list work ≡ check.Fine
+    unfolding callCheck roomsCheck
+    by-none h w = rw (e, le-ltb list (width * k) h, le-ltb work 10240 w)
+
+  -- what the checks refuse has its cause
+  checks-cause : (trail : ℕ) {n p : ℕ} → callCheck k os cs list work ≡ check.Refused n p → Cause k os cs list work trail n p
+  checks-cause trail {n} {p} e = go (tablesCheck k os cs) refl
+    where
+      at : {m q : ℕ} → check.Refused m q ≡ check.Refused n p → Cause k os cs list work trail m q → Cause k os cs list work trail n p
+      at {m} {q} same c = let a : m ≡ n = cc same in let b : q ≡ p = cc same in rw (← a, ← b) c
+
+      go : (c : Check) → tablesCheck k os cs ≡ c → Cause k os cs list work trail n p
+      go (check.Refused m q) f = at (sym (by-tables f) ∙ e) (tables (refused-exactly k os cs m q .0 f))
+      go check.Fine f =
+          let kept = fine-exactly k os cs .0 f in
+          by-le (width * k) list
+          (λ h. by-le 10240 work
+          (λ w. let same = sym (by-none f h w) ∙ e in let z : _≡_ {A = ℕ} 0 1 = cc same in absurd (omega arith))
+          (λ w. at (sym (by-work f h w) ∙ e) (work-room kept h w)))
+          (λ h. at (sym (by-list f h) ∙ e) (list-room kept h))
+
+  -- where the checks accept, nothing before 8 is a cause
+  fine-kept : callCheck k os cs list work ≡ check.Fine → (tablesCheck k os cs ≡ check.Fine) × (width * k ≤ list) × (10240 ≤ work)
+  fine-kept e = go (tablesCheck k os cs) refl
+    where
+      other : {m q : ℕ} → callCheck k os cs list work ≡ check.Refused m q → ⊥
+      other f = let same = sym f ∙ e in let z : _≡_ {A = ℕ} 0 1 = cc same in omega arith
+
+      go : (c : Check) → tablesCheck k os cs ≡ c → (tablesCheck k os cs ≡ check.Fine) × (width * k ≤ list) × (10240 ≤ work)
+      go (check.Refused m q) f = absurd (other (by-tables f))
+      go check.Fine f = by-le (width * k) list (λ h. by-le 10240 work (λ w. (f, h, w)) (λ w. absurd (other (by-work f h w)))) (λ h. absurd (other (by-list f h)))
+
+-- ---- the numbers
+
+breaks-few : (k : ℕ) (os cs : List ℕ) (n p : ℕ) → Breaks k os cs n p → n ≤ 5
+breaks-few k os cs n p (wrong-k w) = omega arith
+breaks-few k os cs n p (wrong-sizes w) = omega arith
+breaks-few k os cs n p (wrong-offset h w) = omega arith
+breaks-few k os cs n p (large-code h w) = omega arith
+breaks-few k os cs n p (code-falls h c w) = omega arith
+
+-- 8 is for the trail alone
+eight-trail : (k : ℕ) (os cs : List ℕ) (list work trail n p : ℕ) → Cause k os cs list work trail n p → n ≡ 8 → trail < 2 * length (trailOf inUse (siteOf os cs) k)
+eight-trail k os cs list work trail n p (tables b) e = absurd (omega (arith, breaks-few k os cs n p (b .here)))
+eight-trail k os cs list work trail n p (list-room a h) e = absurd (omega arith)
+eight-trail k os cs list work trail n p (work-room a h w) e = absurd (omega arith)
+eight-trail k os cs list work trail n p (trail-room a h w t) e = t
+
+-- ---- the join
+
+module _ (k : ℕ) (os cs list work trail : List ℕ) (r : Answer) (list′ work′ trail′ : List ℕ) (j : Joins k os cs list work trail r list′ work′ trail′) where
+  -- a refusal has its cause
+  pub refused-cause : (n p : ℕ) → Tells r n (p ∷ []) → Cause k os cs (length list) (length work) (length trail) n p
+  refused-cause n p e =
+      ⊎-elim
+      (λ f. checks-cause k os cs (length list) (length work) (length trail) f)
+      (λ w.
+      let a = fine-kept k os cs (length list) (length work) (w .0) in
+      let q : n ≡ 8 = w .2 in
+      let z : p ≡ 0 = w .3 in
+      rw (q, z) (trail-room (fine-exactly k os cs .0 (a .0)) (a .1) (a .2) (w .1)))
+      (refused-only k os cs list work trail r list′ work′ trail′ j (tells-refused r e))
+
+  -- a cause is refused
+  pub cause-refused : (n p : ℕ) → Cause k os cs (length list) (length work) (length trail) n p → Tells r n (p ∷ [])
+  cause-refused n p (tables b) = j .refused n p (by-tables k os cs (length list) (length work) (refused-exactly k os cs n p .1 b)) .told
+  cause-refused n p (list-room a h) = j .refused 6 0 (by-list k os cs (length list) (length work) (fine-exactly k os cs .1 a) h) .told
+  cause-refused n p (work-room a h w) = j .refused 7 0 (by-work k os cs (length list) (length work) (fine-exactly k os cs .1 a) h w) .told
+  cause-refused n p (trail-room a h w t) = j .no-room (by-none k os cs (length list) (length work) (fine-exactly k os cs .1 a) h w) t .told
+
+  -- after 1 to 7 no buffer has changed
+  pub refused-unchanged : (n p : ℕ) → Tells r n (p ∷ []) → (n ≡ 8 → ⊥) → (list′ ≡ list) × (work′ ≡ work) × (trail′ ≡ trail)
+  refused-unchanged n p e not-8 =
+      ⊎-elim
+      (λ f. let w = j .refused n p f in (w .list-as-was, w .work-as-was, w .trail-as-was))
+      (λ w. absurd (not-8 (w .2)))
+      (refused-only k os cs list work trail r list′ work′ trail′ j (tells-refused r e))
+
+  -- after 8 all three are zero
+  pub refused-emptied : (p : ℕ) → Tells r 8 (p ∷ []) → (list′ ≡ zeros list) × (work′ ≡ zeros work) × (trail′ ≡ zeros trail)
+  refused-emptied p e =
+      ⊎-elim
+      (λ f.
+      let many = 2 * length (trailOf inUse (siteOf os cs) k) in
+      let t = eight-trail k os cs (length list) (length work) many 8 p (checks-cause k os cs (length list) (length work) many f) refl in
+      absurd (omega (arith, t)))
+      (λ w. let z = j .no-room (w .0) (w .1) in (z .list-zero, z .work-zero, z .trail-zero))
+      (refused-only k os cs list work trail r list′ work′ trail′ j (tells-refused r e))

@@ -1,0 +1,2 @@
+-- tables that the check lets pass
+pub mod Accepted

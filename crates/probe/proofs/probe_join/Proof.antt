@@ -1,0 +1,24 @@
+use mathlib.Core.Path.{refl}
+use Rattle.probe.proofs.Probed.{join-left, join-told}
+use borrow.Author.Needs.{needs}
+use Rattle.probe.proofs.probe_join.Statement.{statement}
+use Rattle.probe.proofs.probe_join.Tie as tie
+
+returns : tie.Need-returns
+returns c = (refl, join-left _ _ _ _ _ _ _ (c .if1 .taken))
+
+returns-2 : tie.Need-returns-2
+returns-2 c = let a = c .before .before .before .before .before .before .before .before .before .before .before .before .before .before .before .before .before .before .before .before .before .args in (refl, join-told (a .k) (a .offsets .now) (a .codes .now) (a .list .now) (a .work .now) (a .trail .now) (a .answer .now) (c .before .before .before .before .before .before .before .before .before .before .before .before .before .before .if1 .left) _ (c .before .before .before .before .before .before .before .before .before .before .join .ensures) (c .before .before .put-join .ensures))
+
+pub probe-join-spec : {M : Type 1} → statement M
+probe-join-spec =
+    tie.close
+    (tie.spec
+    returns
+    (λ c κs. search needs)
+    (λ c κs. search needs)
+    (λ c. search needs)
+    (λ c. search needs)
+    (λ c. search needs)
+    (λ c. search needs)
+    returns-2)

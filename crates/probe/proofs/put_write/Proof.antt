@@ -1,0 +1,26 @@
+use Rattle.probe.specs.Probe.{writeWords, told}
+use borrow.Author.Needs.{needs}
+use Rattle.probe.proofs.put_write.Statement.{statement}
+use Rattle.probe.proofs.put_write.Tie as tie
+
+returns : tie.Need-returns
+unfolding writeWords
+returns c = rw (c .before .before .before .before .before .r .given .1) (c .before .before .put .ensures)
+
+returns-2 : tie.Need-returns-2
+unfolding writeWords
+returns-2 c = rw (c .before .before .before .before .before .r2 .given .1) (c .before .before .put2 .ensures)
+
+pub put-write-spec : {M : Type 1} → statement M
+put-write-spec =
+    tie.close
+    (tie.spec
+    (λ c. search needs)
+    (λ c κs. search needs)
+    (λ c. search needs)
+    (λ c. search needs)
+    (λ c κs. search needs)
+    (λ c. search needs)
+    returns
+    (λ c. search needs)
+    returns-2)

@@ -1,0 +1,31 @@
+-- One answer only: two results that meet a function's contract are equal, and so are the buffers that it leaves.
+-- `Post` is the contract itself, as it is read from the code.
+use mathlib.Core.Path.{_≡_, sym, _∙_}
+use mathlib.Core.List.{List}
+use Prim.Native.Nat.{ℕ}
+use contract.Lifetimes.{Lfts}
+use denote.Triple.Clauses.{AtExit}
+use borrow.Fn.Kinds.{PK, RK, Out, Dens, resT, endedOf}
+use Rattle.walk.proofs.meet.Kinds as meet-kinds
+use Rattle.walk.proofs.meet.Reads as meet
+use Rattle.walk.proofs.shared_count.Kinds as shared-count-kinds
+use Rattle.walk.proofs.shared_count.Reads as shared-count
+use Rattle.walk.proofs.union_count.Kinds as union-count-kinds
+use Rattle.walk.proofs.union_count.Reads as union-count
+use Rattle.walk.proofs.below.Kinds as below-kinds
+use Rattle.walk.proofs.below.Reads as below
+
+abbrev OneAnswer : (n : ℕ) (ps : List (PK n)) (r : RK n) → Out n ps r → Type 0
+OneAnswer n ps r Post = (κs : Lfts n) (a : Dens κs ps) (u v : resT r κs .Denot) (x y : AtExit (endedOf n ps r) κs) → Post κs a u x → Post κs a v y → u ≡ v
+
+pub meet-only : OneAnswer 2 meet-kinds.ps meet-kinds.r meet.Post
+meet-only κs a u v x y p q = p ∙ sym q
+
+pub shared-count-only : OneAnswer 2 shared-count-kinds.ps shared-count-kinds.r shared-count.Post
+shared-count-only κs a u v x y p q = p ∙ sym q
+
+pub union-count-only : OneAnswer 2 union-count-kinds.ps union-count-kinds.r union-count.Post
+union-count-only κs a u v x y p q = p ∙ sym q
+
+pub below-only : OneAnswer 0 below-kinds.ps below-kinds.r below.Post
+below-only κs a u v x y p q = p ∙ sym q
