@@ -1,0 +1,26 @@
+-- The host call: the number it gets, and every byte of its buffer.
+use mathlib.Core.List.{List}
+use mathlib.Core.Path.{_≡_}
+use Prim.Native.Nat.{ℕ, _+_}
+use lib.ListN.{length}
+use Rattle.words.specs.Words.{padded}
+use Rattle.sheet.specs.Read.{Read, value, refused}
+use Rattle.listing.specs.Listing.{listingIn}
+use Rattle.listing.specs.Answers.{bytesOf}
+use Rattle.listing.specs.declared.Listing.{Listing}
+use Rattle.listing.specs.declared.Listing.the-variants.{Text, Refused}
+
+-- the text's length, or 1,000,000 plus the refusal number
+unfoldable pub valueOf : Read (List ℕ) → ℕ
+valueOf (value text) = length text
+valueOf (refused n p) = 1000000 + n
+
+-- the same of the library's answer
+unfoldable pub valueBy : Listing → ℕ
+valueBy (Text n) = n
+valueBy (Refused n p) = 1000000 + n
+
+-- `sazamkhri_listing` of a sheet into a lent buffer: the value, and the buffer afterwards, zero after a refusal and behind a listing
+pub record Hosts (sheet text : List ℕ) (r : ℕ) (text₂ : List ℕ) : Type 0 where
+  pub value-is : r ≡ valueOf (listingIn (length text) sheet)
+  pub text-is : text₂ ≡ padded (length text) (bytesOf (listingIn (length text) sheet))

@@ -1,0 +1,2 @@
+-- the call's contract
+pub mod Call

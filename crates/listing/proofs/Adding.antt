@@ -1,0 +1,126 @@
+-- Lines behind a pen: `Added` for one line, for two pieces one after the other, and for a line an entry.
+use mathlib.Core.List.{List, [], _∷_, _++_, append-assoc}
+use mathlib.Core.Path.{_≡_, refl, sym, ap, subst, _∙_}
+use Prim.Native.Nat.{ℕ, _+_, _-_, _*_, _≤_, _<_}
+use native.Mathlib.Omega.{arith}
+use lib.ListN.{length, getD, take, drop, length-append}
+use Rattle.words.specs.Words.{flat}
+use Rattle.words.proofs.Words.{flat-append, flat-one}
+use Rattle.entries.specs.declared.Entry.{Entry}
+use Rattle.entries.specs.Entries.{width, words, entryAt, entriesFrom, entries}
+use Rattle.entries.proofs.Reading.{length-entries, flat-entries, entries-at}
+use Rattle.sheet.specs.Text.{lineText}
+use Rattle.pen.specs.declared.Pen.{Pen}
+use Rattle.pen.specs.Lines.{Fits, Lined}
+use Rattle.pen.proofs.Grown.{Grows}
+use Rattle.pen.proofs.Past.{line-some, no-room, Past, past-none, past-line, Grown, grown-start, grown-next, grown-full, grown-end}
+use Rattle.listing.specs.Listing.{pairKey, entryText, entriesText}
+use Rattle.listing.specs.Answers.{Added}
+use Rattle.listing.specs.declared.Penned.{Penned}
+use Rattle.listing.specs.declared.Penned.the-variants.{On, Full}
+
+never-full : {C : Type 0} {q : Pen} → On q ≡ Full → C
+never-full e = let y : _≡_ {A = ℕ} 0 1 = cc e in absurd (omega arith)
+
+-- ---- the two answers
+
+pub added-on : {bs old now : List ℕ} {p q : Pen} → Past bs old now p q → Added bs old now p (On q)
+added-on {bs} {old} {now} {p} {q} h = record {
+  long = h .long;
+  on = λ z e. let f : q ≡ z = cc e in subst (λ (y : Pen). Past bs old now p y) f h;
+  full = λ e. never-full e;
+}
+
+pub added-none : {bs old now : List ℕ} {p : Pen} → length now ≡ length old → p .room < length bs → Added bs old now p Full
+added-none l h = record { long = l; on = λ q e. never-full (sym e); full = λ e. h }
+
+-- ---- two pieces
+
+past-then : {bs cs old mid now : List ℕ} {p q r : Pen} → Past bs old mid p q → Past cs mid now q r → Past (bs ++ cs) old now p r
+past-then h g = record {
+  fits = g .fits;
+  long = g .long ∙ h .long;
+  place = rw length-append (omega (arith, h .place, g .place));
+  front = g .front ∙ rw (h .front, append-assoc);
+}
+
+module _ {bs old mid : List ℕ} {p : Pen} {r : Penned} (w : Added bs old mid p r) where
+  -- nothing more fits
+  pub added-stop : (cs : List ℕ) → r ≡ Full → Added (bs ++ cs) old mid p r
+  added-stop cs e = record { long = w .long; on = λ q f. never-full (sym f ∙ e); full = λ f. rw length-append (omega (arith, w .full e)) }
+
+  -- a piece more behind it
+  pub added-then : Fits p old → {q : Pen} → r ≡ On q → {cs now : List ℕ} {s : Penned} → Added cs mid now q s → Added (bs ++ cs) old now p s
+  added-then f {q} e v =
+      let h = w .on q e in
+      record {
+        long = v .long ∙ w .long;
+        on = λ z g. past-then h (v .on z g);
+        full = λ g. rw length-append (omega (arith, f, h .fits, h .long, h .place, v .full g));
+      }
+
+  -- the pen behind it has its place and its room in the text
+  pub added-fits : {q : Pen} → r ≡ On q → Fits q mid
+  added-fits {q} e = w .on q e .fits
+
+-- ---- one line
+
+module _ {bs old now : List ℕ} {p q : Pen} (f : Fits p old) (w : Lined bs old now p q) (l : length now ≡ length old) where
+  pub line-on : (q .place ≡ p .place → ⊥) → Added bs old now p (On q)
+  line-on m = added-on (past-line f (past-none f) w m)
+
+  pub line-full : 0 < length bs → q .place ≡ p .place → Added bs old now p Full
+  line-full s e = added-none l (no-room w s e)
+
+-- ---- a line an entry
+
+pub entries-grow : Grows entriesText (λ i. entryText)
+unfolding entriesText flat
+entries-grow = record { none = refl; snoc = λ es e. flat-append entryText es (e ∷ []) ∙ ap (λ (t : List ℕ). entriesText es ++ t) (flat-one entryText e) }
+
+-- the words of an entry are a part of the list
+entry-part : (ws : List ℕ) (at : ℕ) → at + width ≤ length ws → words (entryAt ws at) ≡ take width (drop at ws)
+unfolding entriesFrom
+entry-part ws at h = sym (flat-one words (entryAt ws at)) ∙ flat-entries ws at 1 h
+
+-- and so is its line
+entry-line : (ws : List ℕ) (n i : ℕ) (d : Entry) → i < n → width * n ≤ length ws → lineText pairKey (take (width * i + width - width * i) (drop (width * i) ws)) ≡ entryText (getD (entries n ws) i d)
+unfolding entryText
+entry-line ws n i d h l =
+    let k : width * i + width - width * i ≡ width = omega arith in
+    let e : entryAt ws (width * i) ≡ getD (entries n ws) i d = sym (entries-at ws n i d h) in
+    ap (λ (j : ℕ). lineText pairKey (take j (drop (width * i) ws))) k ∙ ap (lineText pairKey) (sym (entry-part ws (width * i) (omega arith))) ∙ ap (λ (x : Entry). lineText pairKey (words x)) e
+
+-- the lines of i entries are written, of n entries in the list, and the pen q is behind them
+pub record Rows (list : List ℕ) (n : ℕ) (old now : List ℕ) (p q : Pen) (i : ℕ) : Type 0 where
+  pub within : i ≤ n
+  pub fits : Fits q now
+  pub long : length now ≡ length old
+  pub grown : Grown entriesText (entries n list) old now p q i
+
+rows : (list : List ℕ) (n : ℕ) {old now : List ℕ} {p q : Pen} {i : ℕ} → Grown entriesText (entries n list) old now p q i → Rows list n old now p q i
+rows list n g = record { within = omega (arith, g .within, length-entries list 0 n); fits = g .past .fits; long = g .past .long; grown = g }
+
+pub rows-start : (list : List ℕ) (n : ℕ) {old : List ℕ} {p : Pen} → Fits p old → Rows list n old old p p 0
+rows-start list n f = rows list n (grown-start entries-grow (entries n list) f)
+
+module _ {list : List ℕ} {n : ℕ} {old mid : List ℕ} {p q : Pen} {i : ℕ} (f : Fits p old) (g : Rows list n old mid p q i) where
+  module _ (room : width * n ≤ length list) (h : i < n) {now : List ℕ} {r : Pen} (w : Lined (lineText pairKey (take (width * i + width - width * i) (drop (width * i) list))) mid now q r) where
+    abbrev d : Entry
+    d = entryAt list 0
+
+    entry-lined : Lined (entryText (getD (entries n list) i d)) mid now q r
+    entry-lined = subst (λ (t : List ℕ). Lined t mid now q r) (entry-line list n i d h room) w
+
+    inside : i < length (entries n list)
+    inside = omega (arith, length-entries list 0 n)
+
+    pub rows-next : (r .place ≡ q .place → ⊥) → Rows list n old now p r (i + 1)
+    rows-next m = rows list n (grown-next entries-grow d f (g .grown) inside entry-lined m)
+
+    pub rows-full : length now ≡ length mid → r .place ≡ q .place → Added (entriesText (entries n list)) old now p Full
+    unfolding entryText
+    rows-full l e = added-none (l ∙ g .long) (grown-full entries-grow d f (g .grown) inside entry-lined (line-some pairKey (words (getD (entries n list) i d))) e)
+
+  pub rows-end : n ≤ i → Added (entriesText (entries n list)) old mid p (On q)
+  rows-end h = added-on (grown-end (g .grown) (omega (arith, length-entries list 0 n)))

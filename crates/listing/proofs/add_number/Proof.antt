@@ -1,0 +1,16 @@
+use borrow.Author.Needs.{needs}
+use Rattle.pen.proofs.Past.{line-some}
+use Rattle.listing.proofs.Adding.{line-on, line-full}
+use Rattle.listing.proofs.add_number.Statement.{statement}
+use Rattle.listing.proofs.add_number.Tie as tie
+
+returns : tie.Need-returns
+returns c = let l = c .before .before .before .line-by in line-full (c .before .before .before .before .before .before .before .before .pre) (l .ensures) (l .kept .0) (line-some _ _) (c .if1 .taken)
+
+returns-2 : tie.Need-returns-2
+returns-2 c = let l = c .before .before .before .line-by in line-on (c .before .before .before .before .before .before .before .before .pre) (l .ensures) (l .kept .0) (c .if1 .left)
+
+pub add-number-spec : {M : Type 1} → statement M
+add-number-spec =
+    tie.close
+    (tie.spec (λ c. search needs) (λ c κs. search needs) (λ c. search needs) returns (λ c. search needs) returns-2)

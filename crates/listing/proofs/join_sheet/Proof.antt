@@ -1,0 +1,47 @@
+-- `listing::join_sheet` meets its contract: the parts lent to the join are the tables of the sheet that was read.
+use borrow.Author.Needs.{needs}
+use mathlib.Core.Path.{sym}
+use native.Mathlib.Omega.{arith}
+use lib.Seq.{length-take-le}
+use Rattle.listing.proofs.Sheets.{tables-fit, sheet-refused, sheet-told}
+use Rattle.listing.proofs.join_sheet.Statement.{statement}
+use Rattle.listing.proofs.join_sheet.Tie as tie
+
+array-share-prefix-offsets : tie.Need-array-share-prefix-offsets
+array-share-prefix-offsets c = omega (arith, c .before .before .before .before .before .read .kept .1 .0, tables-fit _ (c .before .before .before .before .before .read .ensures .answer) (c .before .r2 .given .1) .0)
+
+slice-aggregate-join-tables : tie.Need-slice-aggregate-join-tables
+slice-aggregate-join-tables c = sym (length-take-le _ _ (omega (arith, c .before .before .before .before .before .before .read .kept .1 .0, tables-fit _ (c .before .before .before .before .before .before .read .ensures .answer) (c .before .before .r2 .given .1) .0)))
+
+array-share-prefix-codes : tie.Need-array-share-prefix-codes
+array-share-prefix-codes c = omega (arith, c .before .before .before .before .before .before .read .kept .1 .1 .0, tables-fit _ (c .before .before .before .before .before .before .read .ensures .answer) (c .before .before .r2 .given .1) .1)
+
+slice-aggregate-join-tables-2 : tie.Need-slice-aggregate-join-tables-2
+slice-aggregate-join-tables-2 c = sym (length-take-le _ _ (omega (arith, c .before .before .before .before .before .before .before .read .kept .1 .1 .0, tables-fit _ (c .before .before .before .before .before .before .before .read .ensures .answer) (c .before .before .before .r2 .given .1) .1)))
+
+returns : tie.Need-returns
+returns c = sheet-refused _ (c .before .before .before .before .before .read .ensures .answer) _ (c .before .r .given .1)
+
+returns-2 : tie.Need-returns-2
+returns-2 c = let r = c .before .before .before .before .before .before .before .before .before .before .before .read in sheet-told _ (r .ensures .answer) (c .before .before .before .before .before .before .before .r2 .given .1) (r .ensures .offsets-are) (r .ensures .codes-are) (c .before .before .join-tables .ensures)
+
+pub join-sheet-spec : {M : Type 1} → statement M
+join-sheet-spec =
+    tie.close
+    (tie.spec
+    (λ c. search needs)
+    (λ c. search needs)
+    (λ c κs. search needs)
+    (λ c. search needs)
+    (λ c. search needs)
+    (λ c. search needs)
+    (λ c. search needs)
+    (λ c. search needs)
+    array-share-prefix-offsets
+    slice-aggregate-join-tables
+    array-share-prefix-codes
+    slice-aggregate-join-tables-2
+    (λ c κs. search needs)
+    returns
+    (λ c. search needs)
+    returns-2)

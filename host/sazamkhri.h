@@ -1,0 +1,96 @@
+/*
+ * Sazamkhri: the most alike pairs of contexts on a site sheet.
+ *
+ * One call. It takes the bytes of a sheet and a buffer, and writes the listing
+ * into the buffer. That it does what is said here is proved, for every sheet
+ * and every buffer (crates/host and crates/listing); what the caller has to see
+ * to is under 'What the caller owes'.
+ *
+ * Link with libhost.a, which `rt staticlib host` makes in target/staticlib/.
+ * Of the C library it needs memset, and nothing else: no heap, no files.
+ */
+#ifndef SAZAMKHRI_H
+#define SAZAMKHRI_H
+
+#include <stddef.h>
+#include <stdint.h>
+
+#ifdef __cplusplus
+extern "C" {
+#endif
+
+/* The most bytes of a sheet. A longer one is refused with 11, before all else. */
+#define SAZAMKHRI_SHEET_LIMIT 24576
+
+/* A listing never has more bytes than this (proved), so a buffer of this size
+ * is never refused with 12. */
+#define SAZAMKHRI_LISTING_LIMIT 2048
+
+/* What the number of a refusal is added to. Every value below it is a length. */
+#define SAZAMKHRI_REFUSED UINT64_C(1000000)
+
+/*
+ * Lists a sheet.
+ *
+ *   sheet, sheet_len   the bytes of the sheet: lines `k=`, `contexts=` and then
+ *                      one `c=` line a context, each ended by byte 10
+ *   text, text_len     the buffer for the listing
+ *
+ * The value is
+ *
+ *   the length of the listing, if the sheet was listed. The listing stands at
+ *   the front of the buffer and is not ended by a zero byte of its own; every
+ *   byte behind it, to the buffer's end, is zero;
+ *
+ *   1,000,000 plus the number of the refusal, if it was not. Then every byte of
+ *   the buffer is zero. The place of a refusal is not told here; the listing
+ *   program prints it.
+ *
+ * The listing has the lines `k=`, `found=`, `events=` and `met=`, and then one
+ * `pair=` line for each pair found: lower context, higher context, codes shared,
+ * codes in either. Contexts count from 0. Every line ends in byte 10.
+ *
+ * Refusals
+ *
+ *    1  k is 0 or above 64
+ *    2  too many contexts or codes for the tables (cannot arise from a sheet)
+ *    3  the contexts do not follow each other   (cannot arise from a sheet)
+ *    4  a code above 4,095
+ *    5  a code that is not above the one before it in its context
+ *    6  no room for the list                    (cannot arise in this call)
+ *    7  no room for the work                    (cannot arise in this call)
+ *    8  more than 2,048 pairs are met
+ *    9  the sheet is badly formed, or stops early
+ *   10  a number above 65,535
+ *   11  the sheet has over 24,576 bytes, over 256 contexts or over 4,096 codes
+ *   12  the listing does not fit the buffer
+ *
+ * 12 is tested last: a sheet that is refused with another number gets that one,
+ * whatever the buffer. A listing as long as the buffer is accepted.
+ *
+ * What the caller owes
+ *
+ *   Both lengths may be 0, and of any size. Neither pointer is null, not even
+ *   with a length of 0: point at any byte.
+ *   sheet points at sheet_len bytes that can be read, text at text_len bytes
+ *   that can be written. The two do not overlap.
+ *   Nobody else writes either of them, or reads the buffer, until the call
+ *   returns.
+ *   48 KB of stack are left: the tables of the call have 38 KB. (Measured: 30 KB,
+ *   since the compiler leaves out what is never read. host/check.c measures it.)
+ *
+ * What the caller gets
+ *
+ *   The call always returns. It keeps nothing: no pointer, no state, no memory.
+ *   The sheet is not changed. The same sheet and the same text_len always give
+ *   the same value and the same bytes.
+ *   Any number of threads may call it at the same time, each with a buffer of
+ *   its own; they may share one sheet.
+ */
+uint64_t sazamkhri_listing(const uint8_t *sheet, size_t sheet_len, uint8_t *text, size_t text_len);
+
+#ifdef __cplusplus
+}
+#endif
+
+#endif
