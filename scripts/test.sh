@@ -42,7 +42,7 @@ examples() {
 }
 
 step "layout (rt fmt --check)" rt fmt --check
-step "promises name what exists" python3 scripts/check-promises.py
+step "promises name what exists" python3 scripts/check-promises.py --finished
 step "public functions have contracts and one answer" python3 scripts/public-functions.py
 step "proofs, must-fail edits and programs (rt ci)" proofs
 step "static libraries" make --no-print-directory libraries
@@ -52,6 +52,7 @@ step "reader and writer against the independent ones" trials sheets
 step "listing and host call against the independent ones" trials host
 step "program against the independent listing" trials program "$PWD/target/bin/sazamkhri"
 step "stored sheets give stored listings" examples
+step "the lesson prints what it says" python3 scripts/check-lesson.py
 step "host program in C, plain and under the sanitizers" host/test.sh
 
 printf '\n'
