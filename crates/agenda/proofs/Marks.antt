@@ -65,27 +65,27 @@ module _ (events : List Event) (n : ℕ) where
 -- ---- the bucket of code x
 
 module _ {os cs : List ℕ} (s : Sound os cs) {j : ℕ} {work : List ℕ} (A : Agenda (siteOf os cs) j work) {x : ℕ} (h : x < 4096) where
-  pub bucket-rises : getD work (256 + x) 0 ≤ getD work (257 + x) 0
+  pub bucket-rises : getD work (272 + x) 0 ≤ getD work (273 + x) 0
   bucket-rises = omega (arith, start-at s A x (omega arith), end-at s A x h)
 
   -- behind its end
-  pub behind-bucket : (n : ℕ) → getD work (257 + x) 0 - getD work (256 + x) 0 ≤ n → Over ≡ postedIs (getElem? (postedOf (siteOf os cs) j x) n)
+  pub behind-bucket : (n : ℕ) → getD work (273 + x) 0 - getD work (272 + x) 0 ≤ n → Over ≡ postedIs (getElem? (postedOf (siteOf os cs) j x) n)
   behind-bucket n k = none-posted (postedOf (siteOf os cs) j x) n (omega (arith, posted-few s j x, start-at s A x (omega arith), end-at s A x h))
 
-  module _ (n : ℕ) (k : n < getD work (257 + x) 0 - getD work (256 + x) 0) where
+  module _ (n : ℕ) (k : n < getD work (273 + x) 0 - getD work (272 + x) 0) where
     within : n < often cs x
     within = omega (arith, start-at s A x (omega arith), end-at s A x h)
 
-    pub word-inside : 4353 + getD work (256 + x) 0 + n < length work
+    pub word-inside : 4369 + getD work (272 + x) 0 + n < length work
     word-inside = omega (arith, start-at s A x (omega arith), bucket-inside s A x n h within)
 
-    word-is : getD work (4353 + getD work (256 + x) 0 + n) 0 ≡ getD (map mark (postedOf (siteOf os cs) j x)) n 0
+    word-is : getD work (4369 + getD work (272 + x) 0 + n) 0 ≡ getD (map mark (postedOf (siteOf os cs) j x)) n 0
     word-is = rw (start-at s A x (omega arith)) (mark-at s A x n h within)
 
-    pub word-empty : getD work (4353 + getD work (256 + x) 0 + n) 0 ≡ 0 → Over ≡ postedIs (getElem? (postedOf (siteOf os cs) j x) n)
+    pub word-empty : getD work (4369 + getD work (272 + x) 0 + n) 0 ≡ 0 → Over ≡ postedIs (getElem? (postedOf (siteOf os cs) j x) n)
     word-empty z = mark-empty (postedOf (siteOf os cs) j x) n word-is z
 
-    pub word-told : (getD work (4353 + getD work (256 + x) 0 + n) 0 ≡ 0 → ⊥) → At (record { 0 = getD work (4353 + getD work (256 + x) 0 + n) 0 - 1 }) ≡ postedIs (getElem? (postedOf (siteOf os cs) j x) n)
+    pub word-told : (getD work (4369 + getD work (272 + x) 0 + n) 0 ≡ 0 → ⊥) → At (record { 0 = getD work (4369 + getD work (272 + x) 0 + n) 0 - 1 }) ≡ postedIs (getElem? (postedOf (siteOf os cs) j x) n)
     word-told z = mark-told (postedOf (siteOf os cs) j x) n word-is z
 
 pub posted-short : {os cs : List ℕ} → Sound os cs → (j x : ℕ) → length (postedOf (siteOf os cs) j x) ≤ 4096

@@ -41,6 +41,23 @@ row-set f g n i h same = row-is g n _ (length-set (map f (upTo n)) i (g i) ∙ r
         (λ (e : k ≡ i). rw e (getD-set-same (map f (upTo n)) i (g i) 0 (omega (arith, row-length f n))))
         (λ d. getD-set-other (map f (upTo n)) i k (g i) 0 d ∙ row-at f n k l ∙ same k d)
 
+-- two numbers are changed
+pub row-two : (f g : ℕ → ℕ) (n i j a b : ℕ) → i < n → j < n → (i ≡ j → ⊥) → a ≡ g i → b ≡ g j → ((k : ℕ) → k < n → (k ≡ i → ⊥) → (k ≡ j → ⊥) → f k ≡ g k) → set (set (map f (upTo n)) i a) j b ≡ map g (upTo n)
+row-two f g n i j a b hi hj d ea eb same = row-is g n _ (length-set (set row i a) j b ∙ long) at
+  where
+    row : List ℕ
+    row = map f (upTo n)
+
+    long : length (set row i a) ≡ n
+    long = length-set row i a ∙ row-length f n
+
+    at : (k : ℕ) → k < n → getD (set (set row i a) j b) k 0 ≡ g k
+    at k l = by-eq k j
+        (λ (e : k ≡ j). rw e (getD-set-same (set row i a) j b 0 (omega (arith, long)) ∙ eb))
+        (λ z. getD-set-other (set row i a) j k b 0 z ∙ by-eq k i
+        (λ (e : k ≡ i). rw e (getD-set-same row i a 0 (omega (arith, row-length f n)) ∙ ea))
+        (λ y. getD-set-other row i k a 0 y ∙ row-at f n k l ∙ same k l y z))
+
 -- ---- behind a seam
 
 pub set-append-add : (xs ys : List ℕ) (i v : ℕ) → set (xs ++ ys) (length xs + i) v ≡ xs ++ set ys i v

@@ -2,8 +2,8 @@
 -- It is a function of the site and of the events done.
 use mathlib.Core.Bool.{cond}
 use mathlib.Core.List.{List, [], _++_, map}
-use Prim.Native.Nat.{ℕ, pred, _≤_}
-use lib.Dec.{eqb, leb}
+use Prim.Native.Nat.{ℕ, pred, _+_, _-_, _≤_}
+use lib.Dec.{eqb, ltb, leb}
 use lib.ListN.{length, take}
 use Rattle.order.specs.Order.{keep}
 use Rattle.site.specs.Measure.{inUse}
@@ -11,6 +11,7 @@ use Rattle.site.specs.Site.{Site, upTo}
 use Rattle.site.specs.Events.{Event, eventsOf, postingOf}
 use Rattle.site.specs.Tables.{allCodes}
 use Rattle.words.specs.Words.{Holds}
+use Rattle.agenda.specs.Blocks.{blockWord}
 use Rattle.agenda.specs.Postings.{often, codesBelow, starts, buckets}
 
 -- the first j events
@@ -25,13 +26,17 @@ postedOf site j x = postingOf site (firstEvents site j) x
 unfoldable pub countIn : List Event → ℕ → ℕ
 countIn done i = length (keep (λ e. eqb i (e .context)) done)
 
--- of each context, how many of its places are done; zeros behind the last
-unfoldable pub cursors : List Event → List ℕ
-cursors done = map (countIn done) (upTo 256)
+-- below 256 how many places of context i are done, and from there on the best of each of y blocks
+unfoldable pub headWord : ℕ → Site → List Event → ℕ → ℕ
+headWord y site done i = cond (ltb i 256) (countIn done i) (cond (ltb i (256 + y)) (blockWord site (countIn done) (i - 256)) 0)
 
--- the cursors, where each code's bucket starts, and the buckets
+-- these words, in a row
+unfoldable pub heads : ℕ → Site → List Event → List ℕ
+heads y site done = map (headWord y site done) (upTo 272)
+
+-- the counts and the blocks, where each code's bucket starts, and the buckets
 unfoldable pub agendaWords : Site → List Event → List ℕ
-agendaWords site done = cursors done ++ starts (allCodes site) ++ buckets site done
+agendaWords site done = heads 16 site done ++ starts (allCodes site) ++ buckets site done
 
 -- the work area after j events
 pub record Agenda (site : Site) (j : ℕ) (work : List ℕ) : Type 0 where
@@ -45,6 +50,10 @@ pub record Agenda (site : Site) (j : ℕ) (work : List ℕ) : Type 0 where
 unfoldable pub summed : ℕ → List ℕ → ℕ → ℕ
 summed y codes x = cond (leb x y) (codesBelow codes x) (often codes (pred x))
 
--- no event done, and the starts as far as they are summed up
+-- nothing counted, and the starts as far as they are summed up
 unfoldable pub summedTo : ℕ → List ℕ → List ℕ
-summedTo y codes = cursors [] ++ map (summed y codes) (upTo 4097)
+summedTo y codes = heads 0 [] [] ++ map (summed y codes) (upTo 4097)
+
+-- no event done, and y of the blocks
+unfoldable pub blocksTo : ℕ → Site → List ℕ
+blocksTo y site = heads y site [] ++ starts (allCodes site)

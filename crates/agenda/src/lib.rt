@@ -1,6 +1,7 @@
 // The order of the events, over the work area: which event is next, and which are done.
-// No other crate knows how the work area is laid out: 256 words with the count of places done of each context; 4,097 words that say where
-// each code's bucket starts; and the buckets, a word for each place of the code, with one more than the context of each event done there.
+// No other crate knows how the work area is laid out: 256 words with the count of places done of each context; 16 words with the best
+// of each 16 contexts; 4,097 words that say where each code's bucket starts; and the buckets, a word for each place of the code,
+// with one more than the context of each event done there.
 ghost use mathlib.Core.Path.{_≡_};
 ghost use Prim.Native.Nat.{_+_, _≤_, _<_};
 ghost use lib.ListN.{length, getElem?, replicate};
@@ -11,6 +12,7 @@ ghost use Rattle.words.specs.Words.{Holds};
 ghost use Rattle.tables.specs.Sound.{Sound};
 ghost use Rattle.agenda.specs.Agenda.{postedOf, Agenda, summedTo};
 ghost use Rattle.agenda.specs.Postings.{postedIs};
+ghost use Rattle.agenda.specs.Blocks.{candidate, bestWord, toldOf, blockWord, counts, Counted};
 ghost use Rattle.agenda.specs.Next.{nextIs, betterOf};
 use site::Context;
 use site::Place;
@@ -45,6 +47,78 @@ fn better(a: Candidate, b: Candidate) -> Candidate
     if below(x, y) { b } else { a }
 }
 
+// Context i, with what is left of it.
+fn candidate_at(offsets: &[u16], codes: &[u16], work: &[u16], i: usize) -> Candidate
+    requires { ⌜ Sound (now offsets) (now codes) ⌝ }
+    requires { ⌜ Counted (siteOf (now offsets) (now codes)) (now work) ⌝ }
+    requires { ⌜ i + 1 < length (now offsets) ⌝ }
+    ensures { λ r. ⌜ r ≡ candidate (siteOf (now (offsets .entry)) (now (codes .entry))) (counts (now (work .entry))) i ⌝ }
+{
+    let size = offsets[i + 1] - offsets[i];
+    let ceiling = Fraction {
+        num: size - work[i],
+        den: size,
+    };
+    Candidate {
+        context: Context(i as u16),
+        ceiling,
+    }
+}
+
+// What a block's word tells.
+fn told(offsets: &[u16], codes: &[u16], work: &[u16], word: u16) -> Candidate
+    requires { ⌜ Sound (now offsets) (now codes) ⌝ }
+    requires { ⌜ Counted (siteOf (now offsets) (now codes)) (now work) ⌝ }
+    requires { ⌜ word < length (now offsets) ⌝ }
+    ensures { λ r. ⌜ r ≡ toldOf (siteOf (now (offsets .entry)) (now (codes .entry))) (counts (now (work .entry))) word ⌝ }
+{
+    if word == 0 {
+        return Candidate {
+            context: Context(0),
+            ceiling: Fraction { num: 0, den: 1 },
+        };
+    }
+    let i = word as usize - 1;
+    candidate_at(offsets, codes, work, i)
+}
+
+// What a block keeps of a candidate.
+fn word_of(c: Candidate) -> u16
+    requires { ⌜ c .context .0 < 256 ⌝ }
+    ensures { λ r. ⌜ r ≡ bestWord c ⌝ }
+{
+    let context = c.context;
+    let ceiling = c.ceiling;
+    if ceiling.num == 0 {
+        return 0;
+    }
+    context.0 + 1
+}
+
+// The word of block b: the best of its 16 contexts.
+fn block_best(offsets: &[u16], codes: &[u16], work: &[u16], b: usize) -> u16
+    requires { ⌜ Sound (now offsets) (now codes) ⌝ }
+    requires { ⌜ Counted (siteOf (now offsets) (now codes)) (now work) ⌝ }
+    requires { ⌜ b < 16 ⌝ }
+    ensures { λ r. ⌜ r ≡ blockWord (siteOf (now (offsets .entry)) (now (codes .entry))) (counts (now (work .entry))) b ⌝ }
+{
+    let from = 16 * b;
+    let mut best = Candidate {
+        context: Context(0),
+        ceiling: Fraction { num: 0, den: 1 },
+    };
+    let mut m: usize = 0;
+    while m < 16 {
+        if from + m + 1 >= offsets.len() {
+            return word_of(best);
+        }
+        let c = candidate_at(offsets, codes, work, from + m);
+        best = better(best, c);
+        m += 1;
+    }
+    word_of(best)
+}
+
 // The next event after the first `events`.
 pub fn next_event(offsets: &[u16], codes: &[u16], work: &[u16], events: usize) -> Next
     requires { ⌜ Sound (now offsets) (now codes) ⌝ }
@@ -58,21 +132,11 @@ pub fn next_event(offsets: &[u16], codes: &[u16], work: &[u16], events: usize) -
         context: Context(0),
         ceiling: Fraction { num: 0, den: 1 },
     };
-    let mut i: usize = 0;
-    while i + 1 < offsets.len() {
-        let size = offsets[i + 1] - offsets[i];
-        let ceiling = Fraction {
-            num: size - work[i],
-            den: size,
-        };
-        best = better(
-            best,
-            Candidate {
-                context: Context(i as u16),
-                ceiling,
-            },
-        );
-        i += 1;
+    let mut b: usize = 0;
+    while b < 16 {
+        let c = told(offsets, codes, work, work[256 + b]);
+        best = better(best, c);
+        b += 1;
     }
     let c = best.context;
     let ceiling = best.ceiling;
@@ -94,12 +158,12 @@ pub fn posted_at(
     ensures { λ r. ⌜ r ≡ postedIs (getElem? (postedOf (siteOf (now (offsets .entry)) (now (codes .entry))) events code) n) ⌝ }
 {
     let x = code as usize;
-    let start = work[256 + x] as usize;
-    let end = work[257 + x] as usize;
+    let start = work[272 + x] as usize;
+    let end = work[273 + x] as usize;
     if n >= end - start {
         return Posted::Over;
     }
-    let word = work[4353 + start + n];
+    let word = work[4369 + start + n];
     if word == 0 {
         return Posted::Over;
     }
@@ -143,10 +207,13 @@ pub fn note_event(
     let code = part[place - 1];
     let n = posted_count(offsets, codes, work, events, code);
     let x = code as usize;
-    let start = work[256 + x] as usize;
+    let start = work[272 + x] as usize;
     let i = c.0 as usize;
     work[i] = p.0;
-    work[4353 + start + n] = c.0 + 1;
+    let b = i / 16;
+    let best = block_best(offsets, codes, work, b);
+    work[256 + b] = best;
+    work[4369 + start + n] = c.0 + 1;
 }
 
 // Counts the codes: how often each stands, one word behind the code's start.
@@ -157,7 +224,7 @@ fn count_codes(offsets: &[u16], codes: &[u16], work: &mut [u16])
 {
     let mut i: usize = 0;
     while i < codes.len() {
-        let at = 257 + codes[i] as usize;
+        let at = 273 + codes[i] as usize;
         let count = work[at];
         work[at] = count + 1;
         i += 1;
@@ -172,10 +239,24 @@ fn sum_starts(offsets: &[u16], codes: &[u16], work: &mut [u16])
 {
     let mut x: usize = 0;
     while x < 4096 {
-        let start = work[256 + x];
-        let count = work[257 + x];
-        work[257 + x] = start + count;
+        let start = work[272 + x];
+        let count = work[273 + x];
+        work[273 + x] = start + count;
         x += 1;
+    }
+}
+
+// Finds the best of each block, with no event done.
+fn lay_blocks(offsets: &[u16], codes: &[u16], work: &mut [u16])
+    requires { ⌜ Sound (now offsets) (now codes) ⌝ }
+    requires { ⌜ (10240 ≤ length (now work)) × Holds (now work) (summedTo 4096 (now codes)) ⌝ }
+    ensures { λ _. ⌜ Agenda (siteOf (now (offsets .entry)) (now (codes .entry))) 0 (now (work .exit)) ⌝ }
+{
+    let mut b: usize = 0;
+    while b < 16 {
+        let best = block_best(offsets, codes, work, b);
+        work[256 + b] = best;
+        b += 1;
     }
 }
 
@@ -187,4 +268,5 @@ pub fn prepare(offsets: &[u16], codes: &[u16], work: &mut [u16])
 {
     count_codes(offsets, codes, work);
     sum_starts(offsets, codes, work);
+    lay_blocks(offsets, codes, work);
 }

@@ -10,19 +10,19 @@ shared-slice-read-start : tie.Need-shared-slice-read-start
 shared-slice-read-start c = let s = c .before in omega (arith, s .pre .1 .0 .room, s .pre .1 .1)
 
 cast-start : tie.Need-cast-start
-cast-start c = omega (arith, c .shared-slice-known .given (256 + c .before .args .code))
+cast-start c = omega (arith, c .shared-slice-known .given (272 + c .before .args .code))
 
 shared-slice-read-end : tie.Need-shared-slice-read-end
 shared-slice-read-end c = let s = c .before .before in omega (arith, s .pre .1 .0 .room, s .pre .1 .1)
 
 cast-end : tie.Need-cast-end
-cast-end c = omega (arith, c .shared-slice-known2 .given (257 + c .before .before .args .code))
+cast-end c = omega (arith, c .shared-slice-known2 .given (273 + c .before .before .args .code))
 
 sub-if1 : tie.Need-sub-if1
 sub-if1 c = let s = c .before .before in bucket-rises (s .pre .0) (s .pre .1 .0) (s .pre .1 .1)
 
 returns : tie.Need-returns
-returns c = let s = c .before .before .before in behind-bucket (s .pre .0) (s .pre .1 .0) (s .pre .1 .1) _ (c .if1 .taken)
+returns c = let s = c .before .before .before in behind-bucket (s .pre .0) (s .pre .1 .0) (s .pre .1 .1) (s .args .n) (omega (arith, c .if1 .taken))
 
 add-word : tie.Need-add-word
 add-word c = let s = c .before .before .before in omega (arith, word-inside (s .pre .0) (s .pre .1 .0) (s .pre .1 .1) _ (c .if1 .left))
