@@ -20,7 +20,8 @@ use Rattle.words.proofs.Words.{padded-length, padded-at, padded-push, padded-no
 use Rattle.agenda.specs.Agenda.{firstEvents}
 use Rattle.agenda.specs.Postings.{often, codesBelow, mark, bucket, buckets}
 use Rattle.agenda.proofs.Rows.{row-is, spanTo, span-suc, rows-suc, rows-at, rows-set}
-use Rattle.agenda.proofs.Counting.{keep-sort, keep-take, keep-map, below-none, below-suc}
+use Rattle.order.proofs.Kept.{keep-sort, keep-take, keep-map}
+use Rattle.agenda.proofs.Counting.{below-none, below-suc}
 
 -- ---- the codes of a site are those at its events
 

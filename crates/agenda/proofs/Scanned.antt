@@ -9,7 +9,8 @@ use borrow.Author.Tests.{ltb-true, ltb-false, le-ltb}
 use Rattle.order.proofs.Lists.{cases, never}
 use Rattle.order.proofs.Orders.{irreflexive, transitive, then-after, then-tied}
 use Rattle.site.specs.Ratio.{below}
-use Rattle.site.specs.Measure.{jaccard, inUse}
+use Rattle.site.specs.Measure.{inUse}
+use Rattle.site.proofs.Measures.{ceiling-is}
 use Rattle.site.specs.Site.{Site, sizeOf}
 use Rattle.site.specs.Events.{ceilingAt, eventBefore}
 use Rattle.walk.specs.declared.Fraction.{Fraction}
@@ -49,8 +50,9 @@ module _ (site : Site) (n : ℕ → ℕ) where
   -- the ceilings of two next places, compared by their cross products
   ceilings : (i j : ℕ) → n i < sizeOf site i → n j < sizeOf site j
       → below (ceilingAt inUse site (nextOf n i)) (ceilingAt inUse site (nextOf n j)) ≡ lower (leftOver site n i) (leftOver site n j)
-  unfolding jaccard
-  ceilings i j h k = sym (lower-below (leftOver site n i) (leftOver site n j) (omega arith) (omega arith))
+  ceilings i j h k =
+      ap₂ below (ceiling-is site (nextOf n i)) (ceiling-is site (nextOf n j))
+      ∙ sym (lower-below (leftOver site n i) (leftOver site n j) (omega arith) (omega arith))
 
   -- with no higher ceiling and a greater number it comes not first
   not-first : (i j : ℕ) → i < j → below (ceilingAt inUse site (nextOf n i)) (ceilingAt inUse site (nextOf n j)) ≡ false → eventBefore inUse site (nextOf n j) (nextOf n i) ≡ false

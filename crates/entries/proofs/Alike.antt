@@ -3,10 +3,13 @@ use mathlib.Core.Bool.{Bool, true, false}
 use mathlib.Core.Path.{_≡_, refl, sym, ap₂, _∙_}
 use Prim.Native.Nat.{_<_}
 use native.Mathlib.Omega.{arith}
-use Rattle.order.proofs.Orders.{then-agrees, then-first, then-after, then-tied}
-use Rattle.site.specs.Ratio.{above}
-use Rattle.site.specs.Measure.{jaccard, inUse}
+use Rattle.order.specs.Order.{by}
+use Rattle.order.proofs.Orders.{then-first, then-after, then-tied}
+use Rattle.site.specs.Ratio.{above, below}
+use Rattle.site.specs.Measure.{inUse}
 use Rattle.site.specs.Site.{Site, Rising, Pair, Shares, unionOf, union, codesOf, similarity, rankBefore, numbersBefore}
+use Rattle.site.proofs.Measures.{similarity-is}
+use Rattle.site.proofs.Pairs.{rank-agrees}
 use Rattle.site.proofs.Contexts.{first-bound, shared-le}
 use Rattle.walk.specs.declared.Fraction.{Fraction}
 use Rattle.walk.specs.Fractions.{lower}
@@ -49,9 +52,11 @@ module _ {site : Site} (R : Rising site) where
       omega (arith, s .some, first-bound (codesOf site i) (codesOf site j), shared-le (codesOf site i) (codesOf site j) (R .rises i) (R .rises j))
 
   alike : (p q : Pair) → Shares site p → Shares site q → moreAlike (entryOf site p) (entryOf site q) ≡ above (similarity inUse site p) (similarity inUse site q)
-  unfolding moreAlike jaccard union
-  alike p q s t = lower-below (similarityOf (entryOf site q)) (similarityOf (entryOf site p)) (union-positive q t) (union-positive p s)
+  unfolding moreAlike
+  alike p q s t =
+      lower-below (similarityOf (entryOf site q)) (similarityOf (entryOf site p)) (union-positive q t) (union-positive p s)
+      ∙ ap₂ below (sym (similarity-is site q)) (sym (similarity-is site p))
 
   pub same-order : (p q : Pair) → Shares site p → Shares site q → entryBefore (entryOf site p) (entryOf site q) ≡ rankBefore inUse site p q
-  unfolding entryBefore rankBefore
-  same-order p q s t = then-agrees _ _ _ _ (entryOf site p) (entryOf site q) p q (alike p q s t) (alike q p t s) refl
+  unfolding entryBefore
+  same-order p q s t = rank-agrees inUse site moreAlike (by pairOf numbersBefore) (entryOf site p) (entryOf site q) p q (alike p q s t) (alike q p t s) refl

@@ -11,10 +11,10 @@ use Rattle.order.proofs.Sort.{insert-length}
 use Rattle.words.specs.Words.{flat}
 use Rattle.words.proofs.Lists.{take-seam}
 use Rattle.words.proofs.Words.{flat-append, padded-over, held}
-use Rattle.entries.specs.Order.{rankOf}
+use Rattle.order.specs.Order.{rankOf}
 use Rattle.entries.specs.Entries.{width, words, entriesFrom, entries, entryBefore, inserted, insertedWords, Inserts}
 use Rattle.entries.specs.declared.Entry.{Entry}
-use Rattle.entries.proofs.Cut.{insert-cut, rank-le}
+use Rattle.order.proofs.Cut.{insert-cut, rank-le}
 use Rattle.entries.proofs.Reading.{flat-width, length-entries, take-entries, drop-entries, flat-entries, entries-held}
 
 -- ---- numbers

@@ -8,16 +8,16 @@ use mathlib.Core.Path.{_≡_, refl, sym, ap, _∙_}
 use Prim.Native.Nat.{ℕ, zero, suc, _+_, _*_, _-_, _≤_, _<_, min}
 use native.Mathlib.Omega.{arith}
 use lib.ListN.{length, take, replicate, length-append, length-map, length-replicate}
-use lib.Seq.{take-nil}
-use Rattle.order.specs.Order.{_∈_, insertBy, kth, sortBy}
-use Rattle.order.proofs.Lists.{take-map, take-in}
-use Rattle.order.proofs.Sort.{insert-map, kth-in, kth-is, kth-none}
+use Rattle.order.specs.Order.{insertBy, kth}
+use Rattle.order.proofs.Lists.{take-map}
+use Rattle.order.proofs.Kth.{kth-in, kth-is, kth-none}
+use Rattle.order.proofs.Sort.{insert-map}
 use Rattle.site.specs.Ratio.{below, reaches}
-use Rattle.site.specs.Measure.{jaccard, inUse}
-use Rattle.site.specs.Site.{Site, Rising, Pair, Shares, union, similarity, rankBefore, ranked, topOf, addTop}
+use Rattle.site.specs.Measure.{inUse}
+use Rattle.site.specs.Site.{Site, Rising, Pair, Shares, similarity, rankBefore, topOf, addTop}
 use Rattle.site.specs.Events.{cutOf}
-use Rattle.site.proofs.Pairs.{ranked-same}
-use Rattle.site.proofs.Top.{top-add, top-length}
+use Rattle.site.proofs.Measures.{similarity-is}
+use Rattle.site.proofs.Top.{top-add, top-length, top-none, top-in}
 use Rattle.walk.specs.declared.Fraction.{Fraction}
 use Rattle.walk.specs.Fractions.{ratioOf, lower}
 use Rattle.walk.proofs.Fractions.{lower-below}
@@ -33,8 +33,8 @@ pub entry-length : (site : Site) (pairs : List Pair) → length (entryWords site
 entry-length site pairs = flat-width (map (entryOf site) pairs) ∙ ap (λ (n : ℕ). width * n) (length-map pairs (entryOf site))
 
 pub listed-start : (site : Site) (k n : ℕ) → Listed site k [] (replicate n 0) 0
-unfolding topOf ranked sortBy flat
-listed-start site k n = record { holds = rw (take-nil k, length-replicate) (padded-none n); count = rw (take-nil k) }
+unfolding flat
+listed-start site k n = record { holds = rw (top-none inUse site k, length-replicate) (padded-none n); count = rw (top-none inUse site k) }
 
 -- ---- the k-th entry
 
@@ -59,10 +59,6 @@ module _ (list : List ℕ) (found k : ℕ) (c : Fraction) where
 -- ---- the list in the loop
 
 module _ {site : Site} {k : ℕ} {pairs : List Pair} {list : List ℕ} {found : ℕ} (R : Rising site) (l : Listed site k pairs list found) where
-  top-in : (q : Pair) → q ∈ topOf inUse site k pairs → q ∈ pairs
-  unfolding topOf
-  top-in q i = ranked-same inUse site pairs q .0 (take-in k (ranked inUse site pairs) i)
-
   pub listed-few : found ≤ k
   listed-few = omega (arith, l .count, top-length inUse site k pairs)
 
@@ -73,7 +69,7 @@ module _ {site : Site} {k : ℕ} {pairs : List Pair} {list : List ℕ} {found : 
     top-inserted : take k (inserted (entryOf site p) (map (entryOf site) (topOf inUse site k pairs))) ≡ map (entryOf site) (topOf inUse site k (pairs ++ p ∷ []))
     unfolding inserted addTop
     top-inserted =
-        ap (take k) (insert-map (rankBefore inUse site) entryBefore (entryOf site) p (topOf inUse site k pairs) (λ q i. same-order R p q (f .share p (in-right pairs (here refl))) (f .share q (in-left (p ∷ []) (top-in q i)))))
+        ap (take k) (insert-map (rankBefore inUse site) entryBefore (entryOf site) p (topOf inUse site k pairs) (λ q i. same-order R p q (f .share p (in-right pairs (here refl))) (f .share q (in-left (p ∷ []) (top-in inUse site k pairs q i)))))
         ∙ take-map (entryOf site) k (insertBy (rankBefore inUse site) p (topOf inUse site k pairs)) ∙ ap (map (entryOf site)) (top-add inUse site k pairs p (f .once))
 
     -- one more pair is inserted
@@ -86,8 +82,7 @@ module _ {site : Site} {k : ℕ} {pairs : List Pair} {list : List ℕ} {found : 
   -- the k-th entry gives the cut-off
   module _ (proper : Proper site pairs) (c : Fraction) (some-left : 0 < c .den) where
     last-below : (q : Pair) → Shares site q → lower c (similarityOf (entryOf site q)) ≡ below (ratioOf c) (similarity inUse site q)
-    unfolding jaccard union
-    last-below q s = lower-below c (similarityOf (entryOf site q)) some-left (union-positive R q s)
+    last-below q s = lower-below c (similarityOf (entryOf site q)) some-left (union-positive R q s) ∙ ap (below (ratioOf c)) (sym (similarity-is site q))
 
     cut-by : (o : Option Pair) → ((q : Pair) → o ≡ some q → Shares site q) → belowEntry c (Option·map (entryOf site) o) ≡ not (reaches (Option·map (similarity inUse site) o) (ratioOf c))
     unfolding reaches
@@ -99,4 +94,4 @@ module _ {site : Site} {k : ℕ} {pairs : List Pair} {list : List ℕ} {found : 
     listed-cut =
         let top = topOf inUse site k pairs in
         ap (belowEntry c) (ap (kth k) (entries-held (map (entryOf site) top) counted (l .holds)) ∙ kth-map (entryOf site) k top)
-        ∙ cut-by (kth k top) (λ q e. proper .share q (top-in q (kth-in k top e)))
+        ∙ cut-by (kth k top) (λ q e. proper .share q (top-in inUse site k pairs q (kth-in k top e)))

@@ -6,7 +6,7 @@ ghost use Prim.Native.Nat.{_+_, _-_, _*_, _≤_, _<_, min};
 ghost use lib.ListN.{length, take, drop};
 ghost use Rattle.order.specs.Order.{kth};
 ghost use Rattle.site.specs.Site.{numbersBefore};
-ghost use Rattle.entries.specs.Order.{rankOf};
+ghost use Rattle.order.specs.Order.{rankOf};
 ghost use Rattle.entries.specs.Entries.{width, words, pairOf, entryAt, entries, similarityOf, entryBefore, insertedWords, Inserts, belowEntry};
 use site::Context;
 use walk::Fraction;

@@ -2,7 +2,6 @@
 use mathlib.Core.List.{List}
 use mathlib.Core.Path.{_≡_, refl, ap, _∙_}
 use Prim.Native.Nat.{ℕ, _+_}
-use lib.ListN.{length}
 use Rattle.sheet.specs.Read.{Read, value, refused}
 use Rattle.listing.specs.Answers.{answerOf}
 use Rattle.listing.specs.Calls.{Lists}

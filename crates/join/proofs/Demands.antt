@@ -23,7 +23,7 @@ use Rattle.search.specs.declared.Answer.{Answer}
 use Rattle.search.proofs.Answers.{tells-listed}
 use Rattle.join.specs.Join.{Joins}
 use Rattle.join.specs.Refusals.{Cause}
-use Rattle.join.proofs.Best.{list-sorted, list-once, list-shares, list-count, list-best, list-all}
+use Rattle.site.proofs.Best.{list-sorted, list-once, list-shares, list-count, list-best, list-all}
 use Rattle.join.proofs.Causes.{refused-cause, cause-refused, refused-unchanged, refused-emptied}
 use Rattle.join.proofs.Checks.{accepted}
 use Rattle.join.proofs.Outcomes.{listed-only}
@@ -94,12 +94,12 @@ module _ {k : ℕ} {offsets codes list work trail : List ℕ} {r : Answer} {list
         record {
           held = w .list-holds;
           counted = n;
-          shares = list-shares site k;
-          once = list-once site k;
-          sorted = list-sorted site k;
-          best = list-best site k;
-          size = n ∙ list-count site k;
-          all = list-all site k;
+          shares = list-shares inUse site k;
+          once = list-once inUse site k;
+          sorted = list-sorted inUse site k;
+          best = list-best inUse site k;
+          size = n ∙ list-count inUse site k;
+          all = list-all inUse site k;
         }
 
     pub demand-3 : Demand-3 (siteOf offsets codes) k events met trail trail′

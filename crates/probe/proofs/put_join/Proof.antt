@@ -1,4 +1,4 @@
-use Rattle.probe.specs.Probe.{joinWords, told}
+use Rattle.probe.specs.Probe.{joinWords}
 use borrow.Author.Needs.{needs}
 use Rattle.probe.proofs.put_join.Statement.{statement}
 use Rattle.probe.proofs.put_join.Tie as tie

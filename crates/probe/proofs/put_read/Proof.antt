@@ -1,4 +1,4 @@
-use Rattle.probe.specs.Probe.{readWords, told}
+use Rattle.probe.specs.Probe.{readWords}
 use borrow.Author.Needs.{needs}
 use Rattle.probe.proofs.put_read.Statement.{statement}
 use Rattle.probe.proofs.put_read.Tie as tie

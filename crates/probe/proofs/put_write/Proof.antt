@@ -1,4 +1,4 @@
-use Rattle.probe.specs.Probe.{writeWords, told}
+use Rattle.probe.specs.Probe.{writeWords}
 use borrow.Author.Needs.{needs}
 use Rattle.probe.proofs.put_write.Statement.{statement}
 use Rattle.probe.proofs.put_write.Tie as tie

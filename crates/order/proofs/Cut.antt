@@ -1,12 +1,10 @@
 -- An insertion by a test is a cut: what stays before, the element, and the others.
--- Nothing here knows of entries.
 use mathlib.Core.Bool.{Bool, true, false, cond}
 use mathlib.Core.List.{List, [], _∷_, _++_}
 use mathlib.Core.Path.{_≡_, refl, ap}
 use Prim.Native.Nat.{ℕ, suc, _≤_, zero-le, suc-le-suc}
 use lib.ListN.{length, take, drop}
-use Rattle.order.specs.Order.{insertBy}
-use Rattle.entries.specs.Order.{rankOf, rankBy}
+use Rattle.order.specs.Order.{insertBy, rankOf, rankBy}
 
 module _ {A : Type 0} (before : A → A → Bool) (x : A) where
   cut-by : (b : Bool) (y : A) (ys : List A) (r : ℕ) → insertBy before x ys ≡ take r ys ++ x ∷ drop r ys
