@@ -10,10 +10,11 @@ use Rattle.walk.specs.declared.Fraction.{Fraction}
 use Rattle.agenda.specs.declared.Candidate.{Candidate}
 use Rattle.agenda.specs.Next.{betterOf, noCandidate}
 
--- what is left of context i, and it as a candidate
+-- what is left of context i
 abbrev pub leftOver : Site → (ℕ → ℕ) → ℕ → Fraction
 leftOver site n i = record { num = sizeOf site i - n i; den = sizeOf site i }
 
+-- context i as a candidate
 abbrev pub candidate : Site → (ℕ → ℕ) → ℕ → Candidate
 candidate site n i = record { context = record { 0 = i }; ceiling = leftOver site n i }
 

@@ -36,6 +36,7 @@ abbrev pub checked : Check → List ℕ → List ℕ → List ℕ → Outcome �
 checked check.Fine list work trail found = found
 checked (check.Refused n p) list work trail found = outcome (answer.Refused n p) list work trail
 
+-- the checks, then the search over the site that the tables stand for
 unfoldable pub joinOf : ℕ → List ℕ → List ℕ → List ℕ → List ℕ → List ℕ → Outcome
 joinOf k offsets codes list work trail = checked (callCheck k offsets codes (length list) (length work)) list work trail (searchOf k (siteOf offsets codes) list work trail)
 

@@ -18,20 +18,25 @@ use Rattle.sheet.specs.Read.{Read, value, refused, _then_}
 use Rattle.sheet.specs.Text.{kKey, lineText}
 use Rattle.sheet.specs.Reading.{Sheet, readSheet}
 
--- ---- the keys: `found=`, `events=`, `met=`, `pair=`, `refused=`
+-- ---- the keys
 
+-- `found=`
 abbrev pub foundKey : List ℕ
 foundKey = 102 ∷ 111 ∷ 117 ∷ 110 ∷ 100 ∷ 61 ∷ []
 
+-- `events=`
 abbrev pub eventsKey : List ℕ
 eventsKey = 101 ∷ 118 ∷ 101 ∷ 110 ∷ 116 ∷ 115 ∷ 61 ∷ []
 
+-- `met=`
 abbrev pub metKey : List ℕ
 metKey = 109 ∷ 101 ∷ 116 ∷ 61 ∷ []
 
+-- `pair=`
 abbrev pub pairKey : List ℕ
 pairKey = 112 ∷ 97 ∷ 105 ∷ 114 ∷ 61 ∷ []
 
+-- `refused=`
 abbrev pub refusedKey : List ℕ
 refusedKey = 114 ∷ 101 ∷ 102 ∷ 117 ∷ 115 ∷ 101 ∷ 100 ∷ 61 ∷ []
 

@@ -50,6 +50,7 @@ pub record Joined : Type 0 where
   pub trail : List ℕ
   pub answer : List ℕ
 
+-- the four of them
 abbrev pub joined : List ℕ → List ℕ → List ℕ → List ℕ → Joined
 joined list work trail answer = record { list = list; work = work; trail = trail; answer = answer }
 
@@ -57,6 +58,7 @@ joined list work trail answer = record { list = list; work = work; trail = trail
 abbrev pub inWords : Outcome → List ℕ → Joined
 inWords o old = joined (o .list) (o .work) (o .trail) (told (joinWords (o .answer)) old)
 
+-- what `probe_join` leaves
 unfoldable pub probeJoin : ℕ → List ℕ → List ℕ → List ℕ → List ℕ → List ℕ → List ℕ → Joined
 probeJoin k offsets codes list work trail old = cond (ltb (length old) 4) (joined list work trail old) (inWords (joinOf k offsets codes list work trail) old)
 
@@ -66,9 +68,11 @@ pub record Loaded : Type 0 where
   pub codes : List ℕ
   pub answer : List ℕ
 
+-- the three of them
 abbrev pub loaded : List ℕ → List ℕ → List ℕ → Loaded
 loaded offsets codes answer = record { offsets = offsets; codes = codes; answer = answer }
 
+-- what `probe_read` leaves
 unfoldable pub probeRead : List ℕ → List ℕ → List ℕ → List ℕ → Loaded
 probeRead sheet offsets codes old =
     let x = readSheet (length offsets) (length codes) sheet in
@@ -79,9 +83,11 @@ pub record Printed : Type 0 where
   pub text : List ℕ
   pub answer : List ℕ
 
+-- the two of them
 abbrev pub printed : List ℕ → List ℕ → Printed
 printed text answer = record { text = text; answer = answer }
 
+-- what `probe_write` leaves
 unfoldable pub probeWrite : ℕ → List ℕ → List ℕ → List ℕ → List ℕ → Printed
 probeWrite k offsets codes text old =
     let x = tablesCheck k offsets codes in

@@ -35,6 +35,7 @@ pub record Outcome : Type 0 where
   pub work : List ℕ
   pub trail : List ℕ
 
+-- the four of them
 abbrev pub outcome : Answer → List ℕ → List ℕ → List ℕ → Outcome
 outcome r list work trail = record { answer = r; list = list; work = work; trail = trail }
 
@@ -46,6 +47,7 @@ zeros words = replicate (length words) 0
 abbrev pub numbers : Pair → List ℕ
 numbers p = p .lower ∷ p .higher ∷ []
 
+-- pairs on the trail, one after the other
 abbrev pub trailWords : List Pair → List ℕ
 trailWords pairs = flat numbers pairs
 

@@ -10,11 +10,12 @@ use Rattle.tables.specs.declared.Check.{Check}
 use Rattle.tables.specs.declared.Check.the-variants.{Fine, Refused}
 
 infixr 20 _andThen_
--- the paper's number of an answer, and its place; 0 where nothing is refused
+-- the paper's number of an answer; 0 where nothing is refused
 abbrev pub numberOf : Check → ℕ
 numberOf Fine = 0
 numberOf (Refused n p) = n
 
+-- and its place
 abbrev pub placeOf : Check → ℕ
 placeOf Fine = 0
 placeOf (Refused n p) = p

@@ -6,6 +6,7 @@ use lib.ListN.{length}
 use Rattle.tables.specs.Checks.{offsetsCheck, codesCheck}
 use Rattle.tables.specs.declared.Check.the-variants.{Fine}
 
+-- sizes within their limits, and no offset or code that breaks its rule
 pub record Sound (offsets codes : List ℕ) : Type 0 where
   pub some : 0 < length offsets
   pub few : length offsets ≤ 257
