@@ -19,7 +19,8 @@ use Rattle.words.specs.Words.{flat, padded}
 use Rattle.words.proofs.Words.{padded-length, padded-at, padded-push, padded-none}
 use Rattle.agenda.specs.Agenda.{firstEvents}
 use Rattle.agenda.specs.Postings.{often, codesBelow, mark, bucket, buckets}
-use Rattle.agenda.proofs.Rows.{row-is, spanTo, span-suc, rows-suc, rows-at, rows-set}
+use Rattle.site.proofs.Rows.{row-is}
+use Rattle.agenda.proofs.Rows.{spanTo, span-suc, rows-suc, rows-at, rows-set}
 use Rattle.order.proofs.Kept.{keep-sort, keep-take, keep-map}
 use Rattle.agenda.proofs.Counting.{below-none, below-suc}
 

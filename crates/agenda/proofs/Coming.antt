@@ -7,7 +7,7 @@ use native.Mathlib.Omega.{arith}
 use lib.ListN.{length, getElem?}
 use Rattle.site.specs.Measure.{inUse}
 use Rattle.site.specs.Site.{Site}
-use Rattle.site.specs.Events.{Event, Occurs, eventsOf}
+use Rattle.site.specs.Events.{Occurs, eventsOf}
 use Rattle.site.specs.Tables.{siteOf}
 use Rattle.site.specs.declared.Context.{Context}
 use Rattle.site.specs.declared.Place.{Place}
@@ -17,11 +17,8 @@ use Rattle.words.proofs.Split.{by-le}
 use Rattle.tables.specs.Sound.{Sound}
 use Rattle.tables.proofs.Sound.{contexts-are}
 use Rattle.agenda.specs.declared.Next.the-variants.{At, Over}
-use Rattle.agenda.specs.Next.{nextIs, noEvent}
+use Rattle.agenda.specs.Next.{nextIs, eventIs, noEvent}
 use Rattle.agenda.proofs.Counts.{eventAt, next-occurs}
-
-abbrev pub eventIs : Context → Place → Event
-eventIs c p = record { context = c .0; place = p .0 }
 
 -- the event behind the first j is the place p of context c
 pub record Coming (site : Site) (j : ℕ) (c : Context) (p : Place) : Type 0 where

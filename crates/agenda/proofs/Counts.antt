@@ -20,8 +20,7 @@ use Rattle.site.proofs.Grid.{grid-length}
 use Rattle.site.proofs.Measures.{in-use-lawful}
 use Rattle.site.proofs.Contexts.{getD-in}
 use Rattle.site.proofs.Events.{in-occurs}
-use Rattle.trail.proofs.Frontier.{Frontier, nextOf, bump, bump-at, bump-other, frontier-start, frontier-step, frontier-same, head-next}
-use Rattle.words.proofs.Split.{by-eq}
+use Rattle.trail.proofs.Frontier.{Frontier, nextOf, bump, frontier-start, frontier-step, frontier-same, head-next}
 use Rattle.tables.specs.Sound.{Sound}
 use Rattle.tables.proofs.Sound.{contexts-are, context-size, offset-rises, offset-first, offset-last}
 use Rattle.agenda.specs.Agenda.{firstEvents, countIn}
@@ -79,15 +78,3 @@ module _ (site : Site) where
 
   pub next-occurs : (j : ℕ) → j < length (eventsOf inUse site) → Occurs site (eventAt j)
   next-occurs j h = in-occurs in-use-lawful site (eventAt j) (getD-in (eventsOf inUse site) j noEvent h)
-
-  -- no context is counted beyond its size
-  pub count-within : (j : ℕ) → j ≤ length (eventsOf inUse site) → (i : ℕ) → countIn (firstEvents site j) i ≤ sizeOf site i
-  unfolding countIn keep
-  count-within zero h i = omega arith
-  count-within (suc j) h i =
-      let e = eventAt j in
-      let n = countIn (firstEvents site j) in
-      let m : countIn (firstEvents site (suc j)) i ≡ bump n (e .context) i = rw (one-more j h) (count-add (firstEvents site j) e i) in
-      rw m (by-eq i (e .context)
-      (λ (q : i ≡ e .context). rw (q, bump-at n (e .context)) (omega (arith, next-occurs j h .to-size, ap (λ (x : Event). x .place) (next-place j h))))
-      (λ d. rw (bump-other n (e .context) i d) (count-within j (omega arith) i)))

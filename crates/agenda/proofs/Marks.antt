@@ -1,8 +1,8 @@
--- The events done at a code, read from its bucket: what `posted_at` tells, and the invariant of `posted_count`.
+-- The events done at a code, read from its bucket: what `posted_at` tells.
 -- A word of the bucket is one more than a context's number, or 0 where no event is done yet.
 use mathlib.Core.List.{List, map}
-use mathlib.Core.Path.{_≡_, sym, _∙_}
-use Prim.Native.Nat.{ℕ, suc, _+_, _-_, _≤_, _<_, zero-le}
+use mathlib.Core.Path.{_≡_, _∙_}
+use Prim.Native.Nat.{ℕ, suc, _+_, _-_, _≤_, _<_}
 use native.Mathlib.Omega.{arith}
 use lib.ListN.{length, getD, getElem?, length-map, List·getD-eq-default}
 use lib.Dec.{eqb}
@@ -19,7 +19,6 @@ use Rattle.site.proofs.Events.{in-occurs}
 use Rattle.tables.specs.Sound.{Sound}
 use Rattle.words.proofs.Lists.{map-at, getElem?-is, getElem?-none}
 use Rattle.words.proofs.Split.{by-le}
-use Rattle.agenda.specs.declared.Posted.{Posted}
 use Rattle.agenda.specs.declared.Posted.the-variants.{At, Over}
 use Rattle.agenda.specs.Agenda.{firstEvents, postedOf, Agenda}
 use Rattle.agenda.specs.Postings.{often, mark, postedIs}
@@ -65,54 +64,31 @@ module _ (events : List Event) (n : ℕ) where
 -- ---- the bucket of code x
 
 module _ {os cs : List ℕ} (s : Sound os cs) {j : ℕ} {work : List ℕ} (A : Agenda (siteOf os cs) j work) {x : ℕ} (h : x < 4096) where
-  pub bucket-rises : getD work (272 + x) 0 ≤ getD work (273 + x) 0
+  pub bucket-rises : getD work (1026 + x) 0 ≤ getD work (1027 + x) 0
   bucket-rises = omega (arith, start-at s A x (omega arith), end-at s A x h)
 
   -- behind its end
-  pub behind-bucket : (n : ℕ) → getD work (273 + x) 0 - getD work (272 + x) 0 ≤ n → Over ≡ postedIs (getElem? (postedOf (siteOf os cs) j x) n)
+  pub behind-bucket : (n : ℕ) → getD work (1027 + x) 0 - getD work (1026 + x) 0 ≤ n → Over ≡ postedIs (getElem? (postedOf (siteOf os cs) j x) n)
   behind-bucket n k = none-posted (postedOf (siteOf os cs) j x) n (omega (arith, posted-few s j x, start-at s A x (omega arith), end-at s A x h))
 
-  module _ (n : ℕ) (k : n < getD work (273 + x) 0 - getD work (272 + x) 0) where
+  module _ (n : ℕ) (k : n < getD work (1027 + x) 0 - getD work (1026 + x) 0) where
     within : n < often cs x
     within = omega (arith, start-at s A x (omega arith), end-at s A x h)
 
-    pub word-inside : 4369 + getD work (272 + x) 0 + n < length work
+    pub word-inside : 5123 + getD work (1026 + x) 0 + n < length work
     word-inside = omega (arith, start-at s A x (omega arith), bucket-inside s A x n h within)
 
-    word-is : getD work (4369 + getD work (272 + x) 0 + n) 0 ≡ getD (map mark (postedOf (siteOf os cs) j x)) n 0
+    word-is : getD work (5123 + getD work (1026 + x) 0 + n) 0 ≡ getD (map mark (postedOf (siteOf os cs) j x)) n 0
     word-is = rw (start-at s A x (omega arith)) (mark-at s A x n h within)
 
-    pub word-empty : getD work (4369 + getD work (272 + x) 0 + n) 0 ≡ 0 → Over ≡ postedIs (getElem? (postedOf (siteOf os cs) j x) n)
+    pub word-empty : getD work (5123 + getD work (1026 + x) 0 + n) 0 ≡ 0 → Over ≡ postedIs (getElem? (postedOf (siteOf os cs) j x) n)
     word-empty z = mark-empty (postedOf (siteOf os cs) j x) n word-is z
 
-    pub word-told : (getD work (4369 + getD work (272 + x) 0 + n) 0 ≡ 0 → ⊥) → At (record { 0 = getD work (4369 + getD work (272 + x) 0 + n) 0 - 1 }) ≡ postedIs (getElem? (postedOf (siteOf os cs) j x) n)
+    pub word-told : (getD work (5123 + getD work (1026 + x) 0 + n) 0 ≡ 0 → ⊥) → At (record { 0 = getD work (5123 + getD work (1026 + x) 0 + n) 0 - 1 }) ≡ postedIs (getElem? (postedOf (siteOf os cs) j x) n)
     word-told z = mark-told (postedOf (siteOf os cs) j x) n word-is z
 
 pub posted-short : {os cs : List ℕ} → Sound os cs → (j x : ℕ) → length (postedOf (siteOf os cs) j x) ≤ 4096
 posted-short {os} {cs} s j x = omega (arith, posted-few s j x, often-few cs x, s .short)
-
--- ---- how many they are
-
--- n of the events at code x are counted
-pub record Numbering (os cs work : List ℕ) (j x n : ℕ) : Type 0 where
-  pub sound : Sound os cs
-  pub agenda : Agenda (siteOf os cs) j work
-  pub small : x < 4096
-  pub counted : n ≤ length (postedOf (siteOf os cs) j x)
-  pub few : length (postedOf (siteOf os cs) j x) ≤ 4096
-
-pub numbering-start : {os cs work : List ℕ} {j x : ℕ} → Sound os cs → Agenda (siteOf os cs) j work → x < 4096 → Numbering os cs work j x 0
-numbering-start {os} {cs} {work} {j} {x} s A h = record { sound = s; agenda = A; small = h; counted = zero-le; few = posted-short s j x }
-
-module _ {os cs work : List ℕ} {j x n : ℕ} (w : Numbering os cs work j x n) {r : Posted} (e : r ≡ postedIs (getElem? (postedOf (siteOf os cs) j x) n)) where
-  pub numbering-more : {d : Context} → r ≡ At d → n < length (postedOf (siteOf os cs) j x)
-  numbering-more a = posted-here (postedOf (siteOf os cs) j x) n (sym e ∙ a) .0
-
-  pub numbering-next : {d : Context} → r ≡ At d → Numbering os cs work j x (n + 1)
-  numbering-next a = record { sound = w .sound; agenda = w .agenda; small = w .small; counted = omega (arith, numbering-more a); few = w .few }
-
-  pub numbering-end : r ≡ Over → n ≡ length (postedOf (siteOf os cs) j x)
-  numbering-end a = omega (arith, w .counted, posted-over (postedOf (siteOf os cs) j x) n (sym e ∙ a))
 
 -- ---- what is known of the events at code x
 

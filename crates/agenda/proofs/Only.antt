@@ -6,7 +6,6 @@ use Prim.Native.Nat.{ℕ, _+_}
 use contract.Lifetimes.{Lfts}
 use denote.Triple.Clauses.{AtExit}
 use borrow.Fn.Kinds.{PK, RK, Out, Dens, resT, endedOf}
-use lib.ListN.{length}
 use Rattle.words.specs.Words.{padded}
 use Rattle.site.specs.Tables.{siteOf}
 use Rattle.agenda.specs.Agenda.{firstEvents, agendaWords}
@@ -28,17 +27,15 @@ next-event-only κs a u v x y p q = p ∙ sym q
 pub posted-at-only : OneAnswer 3 posted-at-kinds.ps posted-at-kinds.r posted-at.Post
 posted-at-only κs a u v x y p q = p ∙ sym q
 
--- the work area at exit; a lent slice keeps its length
+-- the work area at exit
 pub note-event-only : (κs : Lfts 3) (a : Dens κs note-event-kinds.ps) (u v : resT note-event-kinds.r κs .Denot) (x y : AtExit (endedOf 3 note-event-kinds.ps note-event-kinds.r) κs)
-    → length (x .1 .1 .0 .now) ≡ length (a .1 .1 .0 .now) → length (y .1 .1 .0 .now) ≡ length (a .1 .1 .0 .now)
     → note-event.Post κs a u x → note-event.Post κs a v y → x .1 .1 .0 .now ≡ y .1 .1 .0 .now
-note-event-only κs a u v x y h k p q =
+note-event-only κs a u v x y p q =
     let site = siteOf (a .0 .now) (a .1 .0 .now) in
-    p .holds ∙ ap (λ (n : ℕ). padded n (agendaWords site (firstEvents site (a .1 .1 .1 .0 + 1)))) (h ∙ sym k) ∙ sym (q .holds)
+    p .0 .holds ∙ ap (λ (n : ℕ). padded n (agendaWords site (firstEvents site (a .1 .1 .1 .0 + 1)))) (p .1 ∙ sym (q .1)) ∙ sym (q .0 .holds)
 
 pub prepare-only : (κs : Lfts 3) (a : Dens κs prepare-kinds.ps) (u v : resT prepare-kinds.r κs .Denot) (x y : AtExit (endedOf 3 prepare-kinds.ps prepare-kinds.r) κs)
-    → length (x .1 .1 .0 .now) ≡ length (a .1 .1 .0 .now) → length (y .1 .1 .0 .now) ≡ length (a .1 .1 .0 .now)
     → prepare.Post κs a u x → prepare.Post κs a v y → x .1 .1 .0 .now ≡ y .1 .1 .0 .now
-prepare-only κs a u v x y h k p q =
+prepare-only κs a u v x y p q =
     let site = siteOf (a .0 .now) (a .1 .0 .now) in
-    p .holds ∙ ap (λ (n : ℕ). padded n (agendaWords site (firstEvents site 0))) (h ∙ sym k) ∙ sym (q .holds)
+    p .0 .holds ∙ ap (λ (n : ℕ). padded n (agendaWords site (firstEvents site 0))) (p .1 ∙ sym (q .1)) ∙ sym (q .0 .holds)

@@ -1,4 +1,4 @@
--- The words on the way to the starts: a row of numbers behind the heads of no event, and how it changes where a code is counted
+-- The words on the way to the starts: a row of numbers behind zeros, and how it changes where a code is counted
 -- or a count is summed up.
 use mathlib.Core.List.{List, [], _∷_, _++_, map, append-assoc}
 use mathlib.Core.Path.{_≡_, sym, ap, _∙_}
@@ -11,10 +11,10 @@ use Rattle.site.specs.Site.{upTo}
 use Rattle.words.specs.Words.{padded, Holds}
 use Rattle.words.proofs.Words.{padded-at, padded-set, padded-none, held}
 use Rattle.words.proofs.Split.{by-le}
-use Rattle.agenda.specs.Agenda.{heads, summed}
+use Rattle.agenda.specs.Agenda.{summed}
 use Rattle.agenda.specs.Postings.{often, codesBelow}
-use Rattle.agenda.proofs.Rows.{row-length, row-at, row-set, row-zeros, set-append-add}
-use Rattle.agenda.proofs.Worked.{heads-length}
+use Rattle.site.proofs.Rows.{row-length, row-at, row-set, row-zeros}
+use Rattle.agenda.proofs.Rows.{set-append-add}
 use Rattle.agenda.proofs.Counting.{often-few, often-add, often-other, below-none}
 
 -- ---- zeros at the end are no words of their own
@@ -25,29 +25,32 @@ zeros-behind n m ws h =
     let e : m + (n - length (ws ++ replicate m 0)) ≡ n - length ws = omega (arith, length-append ws (replicate m 0), length-replicate {A = ℕ} m 0) in
     append-assoc ws (replicate m 0) (replicate (n - length (ws ++ replicate m 0)) 0) ∙ ap (λ (l : List ℕ). ws ++ l) (replicate-append-replicate m (n - length (ws ++ replicate m 0)) 0 ∙ ap (λ (i : ℕ). replicate i 0) e)
 
--- rows of zeros
-pub zero-rows : (f g : ℕ → ℕ) (n a b : ℕ) → ((i : ℕ) → i < a → f i ≡ 0) → ((i : ℕ) → i < b → g i ≡ 0) → a + b ≤ n → replicate n 0 ≡ padded n (map f (upTo a) ++ map g (upTo b))
-zero-rows f g n a b p q h = rw (← row-zeros f a p, ← row-zeros g b q, replicate-append-replicate) (sym (zeros-behind n (a + b) [] (omega arith) ∙ sym (padded-none n)))
+-- nor is a row of zeros
+pub zero-row : (g : ℕ → ℕ) (n a b : ℕ) → ((i : ℕ) → i < b → g i ≡ 0) → a + b ≤ n → replicate n 0 ≡ padded n (replicate a 0 ++ map g (upTo b))
+zero-row g n a b q h = rw (← row-zeros g b q, replicate-append-replicate) (sym (zeros-behind n (a + b) [] (omega arith) ∙ sym (padded-none n)))
 
--- ---- a row behind the heads of no event
+-- ---- a row behind zeros
+
+abbrev zeros : List ℕ
+zeros = replicate 1026 0
 
 abbrev pub rowed : (ℕ → ℕ) → List ℕ
-rowed f = heads 0 [] [] ++ map f (upTo 4097)
+rowed f = replicate 1026 0 ++ map f (upTo 4097)
 
-none-length : length (heads 0 [] []) ≡ 272
-none-length = heads-length 0 [] []
+none-length : length zeros ≡ 1026
+none-length = length-replicate {A = ℕ} 1026 0
 
-pub rowed-length : (f : ℕ → ℕ) → length (rowed f) ≡ 4369
-rowed-length f = omega (arith, length-append (heads 0 [] []) (map f (upTo 4097)), none-length, row-length f 4097)
+pub rowed-length : (f : ℕ → ℕ) → length (rowed f) ≡ 5123
+rowed-length f = omega (arith, length-append zeros (map f (upTo 4097)), none-length, row-length f 4097)
 
 module _ (f : ℕ → ℕ) {work : List ℕ} (w : Holds work (rowed f)) (x : ℕ) (h : x < 4097) where
-  pub rowed-at : getD work (272 + x) 0 ≡ f x
-  rowed-at = rw (w, ← none-length) (padded-at (length work) (rowed f) (length (heads 0 [] []) + x) ∙ getD-append-add (heads 0 [] []) (map f (upTo 4097)) x 0 ∙ row-at f 4097 x h)
+  pub rowed-at : getD work (1026 + x) 0 ≡ f x
+  rowed-at = rw (w, ← none-length) (padded-at (length work) (rowed f) (length zeros + x) ∙ getD-append-add zeros (map f (upTo 4097)) x 0 ∙ row-at f 4097 x h)
 
-  pub rowed-set : (g : ℕ → ℕ) (v : ℕ) → 4369 ≤ length work → ((k : ℕ) → (k ≡ x → ⊥) → f k ≡ g k) → v ≡ g x → Holds (set work (272 + x) v) (rowed g)
+  pub rowed-set : (g : ℕ → ℕ) (v : ℕ) → 5123 ≤ length work → ((k : ℕ) → (k ≡ x → ⊥) → f k ≡ g k) → v ≡ g x → Holds (set work (1026 + x) v) (rowed g)
   rowed-set g v room same e =
-      let row : set (rowed f) (272 + x) v ≡ rowed g = rw (e, ← none-length) (set-append-add (heads 0 [] []) (map f (upTo 4097)) x (g x) ∙ ap (λ (l : List ℕ). heads 0 [] [] ++ l) (row-set f g 4097 x h same)) in
-      let a : set work (272 + x) v ≡ padded (length work) (set (rowed f) (272 + x) v) = ap (λ (l : List ℕ). set l (272 + x) v) w ∙ padded-set (length work) (rowed f) (272 + x) v (omega (arith, rowed-length f)) in
+      let row : set (rowed f) (1026 + x) v ≡ rowed g = rw (e, ← none-length) (set-append-add zeros (map f (upTo 4097)) x (g x) ∙ ap (λ (l : List ℕ). zeros ++ l) (row-set f g 4097 x h same)) in
+      let a : set work (1026 + x) v ≡ padded (length work) (set (rowed f) (1026 + x) v) = ap (λ (l : List ℕ). set l (1026 + x) v) w ∙ padded-set (length work) (rowed f) (1026 + x) v (omega (arith, rowed-length f)) in
       held (length work) (rowed g) (omega (arith, rowed-length g)) (a ∙ ap (padded (length work)) row)
 
 -- ---- the sums

@@ -1,137 +1,110 @@
--- The words of the work area: where each count, each block, each start and each word of a bucket stands, and what one event more changes.
--- Counts from 0 on, blocks from 256 on, starts from 272 on, buckets from 4369 on.
-use mathlib.Core.List.{List, [], _∷_, _++_, map}
+-- The words of the work area in two parts: the heads (what is left from 0 on, sizes from 257 on, nodes from 514 on) and what stands
+-- behind them, from 1026 on. What is read of each, and that a work area is known by what is read.
+use mathlib.Core.List.{List, _++_}
 use mathlib.Core.Path.{_≡_, sym, ap, _∙_}
-use Prim.Native.Nat.{ℕ, suc, _+_, _-_, _*_, _≤_, _<_}
+use Prim.Native.Nat.{ℕ, _+_, _-_, _≤_, _<_}
 use native.Mathlib.Omega.{arith}
-use lib.ListN.{length, getD, set, length-append, length-set, List·getD-append}
-use lib.Seq.{getD-append-add, set-append-left}
-use Rattle.site.specs.Measure.{inUse}
-use Rattle.site.specs.Site.{Site}
-use Rattle.site.specs.Events.{Event, codeAt, eventsOf, postingOf}
-use Rattle.site.specs.Tables.{allCodes}
-use Rattle.trail.proofs.Frontier.{bump, bump-at, bump-other}
-use Rattle.agenda.specs.Agenda.{firstEvents, countIn, headWord, heads, agendaWords}
-use Rattle.agenda.specs.Blocks.{blockWord}
-use Rattle.agenda.specs.Postings.{often, codesBelow, mark, starts, buckets}
+use lib.ListN.{length, getD, set, length-append, List·getD-append}
+use lib.Seq.{ext-getD, getD-append-add, getD-set-same, getD-set-other}
 use borrow.Author.Tests.{lt-ltb, le-ltb}
-use Rattle.words.proofs.Split.{by-le}
-use Rattle.agenda.proofs.Blocks.{block-same}
-use Rattle.agenda.proofs.Rows.{row-length, row-at, row-two, set-append-add}
-use Rattle.agenda.proofs.Counts.{count-add, eventAt, one-more, next-place}
-use Rattle.agenda.proofs.Buckets.{Fits, posting-few, span-is, bucket-at, buckets-next}
+use Rattle.walk.specs.declared.Fraction.{Fraction}
+use Rattle.words.specs.Words.{padded, Holds}
+use Rattle.words.proofs.Words.{padded-length, padded-at}
+use Rattle.words.proofs.Split.{by-eq, by-le}
+use Rattle.agenda.specs.Agenda.{headWord, heads}
+use Rattle.agenda.specs.Tournament.{leftIn, nodeWord}
+use Rattle.site.proofs.Rows.{row-length, row-at}
+use Rattle.agenda.proofs.Ranks.{left-eq}
 
--- ---- three parts, one behind the other
+-- ---- the heads
 
-module _ (xs ys zs : List ℕ) where
-  first-at : (i : ℕ) → i < length xs → getD (xs ++ ys ++ zs) i 0 ≡ getD xs i 0
-  first-at i h = List·getD-append (xs ++ ys) zs 0 i (omega (arith, length-append xs ys)) ∙ List·getD-append xs ys 0 i h
+module _ (top : ℕ) (f : ℕ → Fraction) where
+  head-num : (w : ℕ) → w ≤ 256 → headWord top f w ≡ f w .num
+  unfolding headWord
+  head-num w h = rw (lt-ltb w 257 (omega arith))
 
-  second-at : (n i : ℕ) → length xs ≡ n → i < length ys → getD (xs ++ ys ++ zs) (n + i) 0 ≡ getD ys i 0
-  second-at n i e h = rw (← e) (List·getD-append (xs ++ ys) zs 0 (length xs + i) (omega (arith, length-append xs ys)) ∙ getD-append-add xs ys i 0)
+  head-den : (w : ℕ) → w ≤ 256 → headWord top f (257 + w) ≡ f w .den
+  unfolding headWord
+  head-den w h = let e : 257 + w - 257 ≡ w = omega arith in rw (le-ltb (257 + w) 257 (omega arith), lt-ltb (257 + w) 514 (omega arith), e)
 
-  third-at : (n i : ℕ) → length (xs ++ ys) ≡ n → getD (xs ++ ys ++ zs) (n + i) 0 ≡ getD zs i 0
-  third-at n i e = rw (← e) (getD-append-add (xs ++ ys) zs i 0)
+  head-none : (t : ℕ) → t < top → headWord top f (514 + t) ≡ 0
+  unfolding headWord
+  head-none t h = rw (le-ltb (514 + t) 257 (omega arith), le-ltb (514 + t) 514 (omega arith), lt-ltb (514 + t) (514 + top) (omega arith))
 
-  first-set : (i v : ℕ) → i < length xs → set (xs ++ ys ++ zs) i v ≡ set xs i v ++ ys ++ zs
-  first-set i v h = set-append-left (xs ++ ys) zs i v (omega (arith, length-append xs ys)) ∙ ap (λ (l : List ℕ). l ++ zs) (set-append-left xs ys i v h)
+  head-node : (t : ℕ) → top ≤ t → headWord top f (514 + t) ≡ nodeWord f t
+  unfolding headWord
+  head-node t h = let e : 514 + t - 514 ≡ t = omega arith in rw (le-ltb (514 + t) 257 (omega arith), le-ltb (514 + t) 514 (omega arith), le-ltb (514 + t) (514 + top) (omega arith), e)
 
-  third-set : (n i v : ℕ) → length (xs ++ ys) ≡ n → set (xs ++ ys ++ zs) (n + i) v ≡ xs ++ ys ++ set zs i v
-  third-set n i v e = rw (← e) (set-append-add (xs ++ ys) zs i v)
-
--- ---- the words
-
--- the word of a count, and that of a block
-pub head-count : (y : ℕ) (site : Site) (done : List Event) (i : ℕ) → i < 256 → headWord y site done i ≡ countIn done i
-unfolding headWord
-head-count y site done i h = rw (lt-ltb i 256 h)
-
-pub head-block : (y : ℕ) (site : Site) (done : List Event) (b : ℕ) → b < y → headWord y site done (256 + b) ≡ blockWord site (countIn done) b
-unfolding headWord
-head-block y site done b h = let e : 256 + b - 256 ≡ b = omega arith in rw (le-ltb (256 + b) 256 (omega arith), lt-ltb (256 + b) (256 + y) (omega arith), e)
-
-pub head-zero : (y : ℕ) (site : Site) (done : List Event) (i : ℕ) → 256 + y ≤ i → headWord y site done i ≡ 0
-unfolding headWord
-head-zero y site done i h = rw (le-ltb i 256 (omega arith), le-ltb i (256 + y) h)
-
-pub heads-length : (y : ℕ) (site : Site) (done : List Event) → length (heads y site done) ≡ 272
-unfolding heads
-heads-length y site done = row-length (headWord y site done) 272
-
-module _ (site : Site) (done : List Event) where
-  pub starts-length : length (starts (allCodes site)) ≡ 4097
-  unfolding starts
-  starts-length = row-length (codesBelow (allCodes site)) 4097
-
-  front-length : length (heads 16 site done ++ starts (allCodes site)) ≡ 4369
-  front-length = omega (arith, length-append (heads 16 site done) (starts (allCodes site)), heads-length 16 site done, starts-length)
-
-  pub words-length : Fits site done → length (agendaWords site done) ≡ 4369 + codesBelow (allCodes site) 4096
-  unfolding agendaWords buckets
-  words-length fits = omega (arith, length-append (heads 16 site done ++ starts (allCodes site)) (buckets site done), front-length, span-is site done fits 4096)
-
-  head-at : (i : ℕ) → i < 272 → getD (agendaWords site done) i 0 ≡ headWord 16 site done i
-  unfolding agendaWords heads
-  head-at i h = first-at (heads 16 site done) (starts (allCodes site)) (buckets site done) i (omega (arith, heads-length 16 site done)) ∙ row-at (headWord 16 site done) 272 i h
-
-  pub cursor-word : (i : ℕ) → i < 256 → getD (agendaWords site done) i 0 ≡ countIn done i
-  cursor-word i h = head-at i (omega arith) ∙ head-count 16 site done i h
-
-  pub block-word : (b : ℕ) → b < 16 → getD (agendaWords site done) (256 + b) 0 ≡ blockWord site (countIn done) b
-  block-word b h = head-at (256 + b) (omega arith) ∙ head-block 16 site done b h
-
-  pub start-word : (x : ℕ) → x < 4097 → getD (agendaWords site done) (272 + x) 0 ≡ codesBelow (allCodes site) x
-  unfolding agendaWords starts
-  start-word x h = second-at (heads 16 site done) (starts (allCodes site)) (buckets site done) 272 x (heads-length 16 site done) (omega (arith, starts-length)) ∙ row-at (codesBelow (allCodes site)) 4097 x h
-
-  pub mark-word : Fits site done → (x n : ℕ) → x < 4096 → n < often (allCodes site) x
-      → getD (agendaWords site done) (4369 + (codesBelow (allCodes site) x + n)) 0 ≡ getD (map mark (postingOf site done x)) n 0
-  unfolding agendaWords
-  mark-word fits x n h k = third-at (heads 16 site done) (starts (allCodes site)) (buckets site done) 4369 (codesBelow (allCodes site) x + n) front-length ∙ bucket-at site done fits x n h k
-
--- ---- one event more
-
-module _ (site : Site) (j : ℕ) (h : j < length (eventsOf inUse site)) (c : eventAt site j .context < 256) where
-  -- one context has come one place further
-  pub count-next : (i : ℕ) → countIn (firstEvents site (suc j)) i ≡ bump (countIn (firstEvents site j)) (eventAt site j .context) i
-  count-next i = rw (one-more site j h) (count-add (firstEvents site j) (eventAt site j) i)
-
-  pub count-here : eventAt site j .place ≡ countIn (firstEvents site (suc j)) (eventAt site j .context)
-  count-here = ap (λ (x : Event). x .place) (next-place site j h) ∙ sym (count-next (eventAt site j .context) ∙ bump-at (countIn (firstEvents site j)) (eventAt site j .context))
-
-  pub count-other : (i : ℕ) → (i ≡ eventAt site j .context → ⊥) → countIn (firstEvents site j) i ≡ countIn (firstEvents site (suc j)) i
-  count-other i d = sym (count-next i ∙ bump-other (countIn (firstEvents site j)) (eventAt site j .context) i d)
-
-  heads-next : (b w : ℕ) → b < 16 → 16 * b ≤ eventAt site j .context → eventAt site j .context < 16 * b + 16 → w ≡ blockWord site (countIn (firstEvents site (suc j))) b
-      → set (set (heads 16 site (firstEvents site j)) (eventAt site j .context) (eventAt site j .place)) (256 + b) w ≡ heads 16 site (firstEvents site (suc j))
+  heads-length : length (heads top f) ≡ 1026
   unfolding heads
-  heads-next b w bs lo hi e =
-      let done = firstEvents site j in
-      let next = firstEvents site (suc j) in
-      let x = eventAt site j .context in
-      row-two (headWord 16 site done) (headWord 16 site next) 272 x (256 + b) (eventAt site j .place) w (omega arith) (omega arith) (λ z. omega arith) (count-here ∙ sym (head-count 16 site next x c)) (e ∙ sym (head-block 16 site next b bs))
-      (λ k l y z. by-le 256 k
-      (λ m.
-      let q : k ≡ 256 + (k - 256) = omega arith in
-      let r : headWord 16 site done (256 + (k - 256)) ≡ headWord 16 site next (256 + (k - 256)) = head-block 16 site done (k - 256) (omega arith) ∙ block-same site (countIn done) (countIn next) (k - 256) (λ i u. count-other (16 * (k - 256) + i) (λ v. z (omega arith))) ∙ sym (head-block 16 site next (k - 256) (omega arith)) in
-      ap (headWord 16 site done) q ∙ r ∙ sym (ap (headWord 16 site next) q))
-      (λ m. head-count 16 site done k m ∙ count-other k y ∙ sym (head-count 16 site next k m)))
+  heads-length = row-length (headWord top f) 1026
 
-  pub words-next : codeAt site (eventAt site j) < 4096 → (b w : ℕ) → b < 16 → 16 * b ≤ eventAt site j .context → eventAt site j .context < 16 * b + 16 → w ≡ blockWord site (countIn (firstEvents site (suc j))) b
-      → set (set (set (agendaWords site (firstEvents site j)) (eventAt site j .context) (eventAt site j .place)) (256 + b) w) (4369 + (codesBelow (allCodes site) (codeAt site (eventAt site j)) + length (postingOf site (firstEvents site j) (codeAt site (eventAt site j))))) (mark (eventAt site j))
-      ≡ agendaWords site (firstEvents site (suc j))
-  unfolding agendaWords
-  words-next small b w bs lo hi q =
-      let e = eventAt site j in
-      let done = firstEvents site j in
-      let next = firstEvents site (suc j) in
-      let sts = starts (allCodes site) in
-      let hs = heads 16 site done in
-      let i = codesBelow (allCodes site) (codeAt site e) + length (postingOf site done (codeAt site e)) in
-      let fits : Fits site (done ++ e ∷ []) = λ x. rw (← one-more site j h) (posting-few site (suc j) x) in
-      let one : set (hs ++ sts ++ buckets site done) (e .context) (e .place) ≡ set hs (e .context) (e .place) ++ sts ++ buckets site done = first-set hs sts (buckets site done) (e .context) (e .place) (omega (arith, c, heads-length 16 site done)) in
-      let two : set (set hs (e .context) (e .place) ++ sts ++ buckets site done) (256 + b) w ≡ set (set hs (e .context) (e .place)) (256 + b) w ++ sts ++ buckets site done = first-set (set hs (e .context) (e .place)) sts (buckets site done) (256 + b) w (omega (arith, length-set hs (e .context) (e .place), heads-length 16 site done)) in
-      ap (λ (l : List ℕ). set (set l (256 + b) w) (4369 + i) (mark e)) one
-      ∙ ap (λ (l : List ℕ). set l (4369 + i) (mark e)) (two ∙ ap (λ (l : List ℕ). l ++ sts ++ buckets site done) (heads-next b w bs lo hi q))
-      ∙ third-set (heads 16 site next) sts (buckets site done) 4369 i (mark e) (front-length site next)
-      ∙ ap (λ (l : List ℕ). heads 16 site next ++ sts ++ l) (buckets-next site done e fits (posting-few site j) small ∙ ap (buckets site) (sym (one-more site j h)))
+  head-at : (i : ℕ) → i < 1026 → getD (heads top f) i 0 ≡ headWord top f i
+  unfolding heads
+  head-at i h = row-at (headWord top f) 1026 i h
+
+  -- ---- with something behind them
+
+  module _ (tail : List ℕ) where
+    whole-length : length (heads top f ++ tail) ≡ 1026 + length tail
+    whole-length = omega (arith, length-append (heads top f) tail, heads-length)
+
+    front-at : (i : ℕ) → i < 1026 → getD (heads top f ++ tail) i 0 ≡ headWord top f i
+    front-at i h = List·getD-append (heads top f) tail 0 i (omega (arith, heads-length)) ∙ head-at i h
+
+    behind-at : (i : ℕ) → getD (heads top f ++ tail) (1026 + i) 0 ≡ getD tail i 0
+    behind-at i = rw (← heads-length) (getD-append-add (heads top f) tail i 0)
+
+-- what is read of a work area
+module _ (top : ℕ) (f : ℕ → Fraction) (tail : List ℕ) {work : List ℕ} (h : Holds work (heads top f ++ tail)) where
+  read : (i : ℕ) → getD work i 0 ≡ getD (heads top f ++ tail) i 0
+  read i = ap (λ (l : List ℕ). getD l i 0) h ∙ padded-at (length work) (heads top f ++ tail) i
+
+  head-read : (i : ℕ) → i < 1026 → getD work i 0 ≡ headWord top f i
+  head-read i l = read i ∙ front-at top f tail i l
+
+  pub left-read : (w : ℕ) → w ≤ 256 → leftIn work w ≡ f w
+  left-read w l = left-eq (head-read w (omega arith) ∙ head-num top f w l) (head-read (257 + w) (omega arith) ∙ head-den top f w l)
+
+  pub none-read : (t : ℕ) → t < top → t < 512 → getD work (514 + t) 0 ≡ 0
+  none-read t z l = head-read (514 + t) (omega arith) ∙ head-none top f t z
+
+  pub node-read : (t : ℕ) → top ≤ t → t < 512 → getD work (514 + t) 0 ≡ nodeWord f t
+  node-read t z l = head-read (514 + t) (omega arith) ∙ head-node top f t z
+
+  pub tail-read : (i : ℕ) → getD work (1026 + i) 0 ≡ getD tail i 0
+  tail-read i = read (1026 + i) ∙ behind-at top f tail i
+
+  -- where one word behind the heads is changed
+  pub tail-set : (k v i : ℕ) → k < length tail → 1026 + k < length work → getD (set work (1026 + k) v) (1026 + i) 0 ≡ getD (set tail k v) i 0
+  tail-set k v i a b = by-eq i k
+      (λ (e : i ≡ k). rw e (getD-set-same work (1026 + k) v 0 b ∙ sym (getD-set-same tail k v 0 a)))
+      (λ d. getD-set-other work (1026 + k) (1026 + i) v 0 (λ z. d (omega arith)) ∙ tail-read i ∙ sym (getD-set-other tail k i v 0 d))
+
+-- and it is known by that
+module _ (top : ℕ) (f : ℕ → Fraction) (tail work : List ℕ) (lefts : (w : ℕ) → w ≤ 256 → leftIn work w ≡ f w) (none : (t : ℕ) → t < top → getD work (514 + t) 0 ≡ 0) (nodes : (t : ℕ) → top ≤ t → t < 512 → getD work (514 + t) 0 ≡ nodeWord f t) where
+  nums : (w : ℕ) → w ≤ 256 → getD work w 0 ≡ f w .num
+  nums w h = ap (λ (x : Fraction). x .num) (lefts w h)
+
+  dens : (w : ℕ) → w ≤ 256 → getD work (257 + w) 0 ≡ f w .den
+  dens w h = ap (λ (x : Fraction). x .den) (lefts w h)
+
+  heads-known : (i : ℕ) → i < 1026 → getD work i 0 ≡ headWord top f i
+  heads-known i l = by-le 257 i
+      (λ m. by-le 514 i
+      (λ k. let e : i ≡ 514 + (i - 514) = omega arith in rw e (by-le top (i - 514)
+      (λ d. nodes (i - 514) d (omega arith) ∙ sym (head-node top f (i - 514) d))
+      (λ d. none (i - 514) d ∙ sym (head-none top f (i - 514) d))))
+      (λ k. let e : i ≡ 257 + (i - 257) = omega arith in rw e (dens (i - 257) (omega arith) ∙ sym (head-den top f (i - 257) (omega arith)))))
+      (λ m. nums i (omega arith) ∙ sym (head-num top f i (omega arith)))
+
+  pub known : 1026 + length tail ≤ length work → ((i : ℕ) → getD work (1026 + i) 0 ≡ getD tail i 0) → Holds work (heads top f ++ tail)
+  known room t =
+      let whole = heads top f ++ tail in
+      let fits : length whole ≤ length work = omega (arith, whole-length top f tail) in
+      ext-getD 0 work (padded (length work) whole) (sym (padded-length (length work) whole fits)) (λ i l. at i ∙ sym (padded-at (length work) whole i))
+    where
+      at : (i : ℕ) → getD work i 0 ≡ getD (heads top f ++ tail) i 0
+      at i = by-le 1026 i
+          (λ l. let e : i ≡ 1026 + (i - 1026) = omega arith in rw e (t (i - 1026) ∙ sym (behind-at top f tail (i - 1026))))
+          (λ l. heads-known i l ∙ sym (front-at top f tail i l))

@@ -2,14 +2,14 @@
 -- The search uses these laws and never opens an entry.
 use mathlib.Core.Bool.{Bool, false, not, Bool·not-not}
 use mathlib.Core.List.{List, [], _∷_, _++_, map}
-use mathlib.Core.List.{Memᴰ·append-left as in-left, Memᴰ·append-right as in-right, List·Memᴰ·head as here}
+use mathlib.Core.List.{Memᴰ·append-left as in-left, Memᴰ·append-right as in-right, List·Memᴰ·head as here, Memᴰ·of-map as of-map}
 use mathlib.Core.Option.{Option, none, some, Option·map}
 use mathlib.Core.Path.{_≡_, refl, sym, ap, _∙_}
 use Prim.Native.Nat.{ℕ, zero, suc, _+_, _*_, _-_, _≤_, _<_, min}
 use native.Mathlib.Omega.{arith}
 use lib.ListN.{length, take, replicate, length-append, length-map, length-replicate}
-use Rattle.order.specs.Order.{insertBy, kth}
-use Rattle.order.proofs.Lists.{take-map}
+use Rattle.order.specs.Order.{_∈_, insertBy, kth}
+use Rattle.order.proofs.Lists.{take-map, pairwise-imp, map-pairwise}
 use Rattle.order.proofs.Kth.{kth-in, kth-is, kth-none}
 use Rattle.order.proofs.Sort.{insert-map}
 use Rattle.site.specs.Ratio.{below, reaches}
@@ -17,13 +17,14 @@ use Rattle.site.specs.Measure.{inUse}
 use Rattle.site.specs.Site.{Site, Rising, Pair, Shares, similarity, rankBefore, topOf, addTop}
 use Rattle.site.specs.Events.{cutOf}
 use Rattle.site.proofs.Measures.{similarity-is}
-use Rattle.site.proofs.Top.{top-add, top-length, top-none, top-in}
+use Rattle.site.proofs.Pairs.{rank-orders}
+use Rattle.site.proofs.Top.{top-sorted, top-add, top-length, top-none, top-in}
 use Rattle.walk.specs.declared.Fraction.{Fraction}
 use Rattle.walk.specs.Fractions.{ratioOf, lower}
 use Rattle.walk.proofs.Fractions.{lower-below}
 use Rattle.words.specs.Words.{flat}
 use Rattle.words.proofs.Words.{padded-none}
-use Rattle.entries.specs.Entries.{width, entryOf, entryAt, entries, similarityOf, entryBefore, inserted, Inserts, belowEntry}
+use Rattle.entries.specs.Entries.{width, entryOf, entryAt, entries, similarityOf, entryBefore, Ordered, inserted, Inserts, belowEntry}
 use Rattle.entries.specs.declared.Entry.{Entry}
 use Rattle.entries.specs.Listed.{entryWords, Listed, Proper}
 use Rattle.entries.proofs.Reading.{flat-width, length-entries, entries-at, entries-held}
@@ -65,6 +66,17 @@ module _ {site : Site} {k : ℕ} {pairs : List Pair} {list : List ℕ} {found : 
   counted : found ≡ length (map (entryOf site) (topOf inUse site k pairs))
   counted = l .count ∙ sym (length-map (topOf inUse site k pairs) (entryOf site))
 
+  -- its entries are in order
+  pub listed-ordered : Proper site pairs → Ordered list found
+  listed-ordered f =
+      let top = topOf inUse site k pairs in
+      let shares : (q : Pair) → q ∈ top → Shares site q = λ q i. f .share q (top-in inUse site k pairs q i) in
+      let held : entries found list ≡ map (entryOf site) top = entries-held (map (entryOf site) top) counted (l .holds) in
+      record {
+        order = rw held (map-pairwise _ (entryOf site) top (pairwise-imp _ _ top (λ p q i j t. same-order R q p (shares q j) (shares p i) ∙ rank-orders inUse site .ranks .asymmetric p q t) (top-sorted inUse site k pairs (f .once))));
+        positive = λ e i. let m = of-map (entryOf site) top (rw held at i) in rw (← (m .2)) (union-positive R (m .0) (shares (m .0) (m .1) .some));
+      }
+
   module _ (p : Pair) (f : Proper site (pairs ++ p ∷ [])) where
     top-inserted : take k (inserted (entryOf site p) (map (entryOf site) (topOf inUse site k pairs))) ≡ map (entryOf site) (topOf inUse site k (pairs ++ p ∷ []))
     unfolding inserted addTop
@@ -82,7 +94,7 @@ module _ {site : Site} {k : ℕ} {pairs : List Pair} {list : List ℕ} {found : 
   -- the k-th entry gives the cut-off
   module _ (proper : Proper site pairs) (c : Fraction) (some-left : 0 < c .den) where
     last-below : (q : Pair) → Shares site q → lower c (similarityOf (entryOf site q)) ≡ below (ratioOf c) (similarity inUse site q)
-    last-below q s = lower-below c (similarityOf (entryOf site q)) some-left (union-positive R q s) ∙ ap (below (ratioOf c)) (sym (similarity-is site q))
+    last-below q s = lower-below c (similarityOf (entryOf site q)) some-left (union-positive R q (s .some)) ∙ ap (below (ratioOf c)) (sym (similarity-is site q))
 
     cut-by : (o : Option Pair) → ((q : Pair) → o ≡ some q → Shares site q) → belowEntry c (Option·map (entryOf site) o) ≡ not (reaches (Option·map (similarity inUse site) o) (ratioOf c))
     unfolding reaches

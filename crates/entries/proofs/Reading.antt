@@ -68,7 +68,7 @@ module _ (ws : List ℕ) where
 entry-eq : (e f : Entry) → e .lower .0 ≡ f .lower .0 → e .higher .0 ≡ f .higher .0 → e .shared ≡ f .shared → e .union ≡ f .union → e ≡ f
 entry-eq e f a b c d = λ i. record { lower = context (a i); higher = context (b i); shared = c i; union = d i }
 
-read-back : (front : List ℕ) (es : List Entry) (behind : List ℕ) → entriesFrom (length front) (length es) (front ++ (flat words es ++ behind)) ≡ es
+pub read-back : (front : List ℕ) (es : List Entry) (behind : List ℕ) → entriesFrom (length front) (length es) (front ++ (flat words es ++ behind)) ≡ es
 unfolding entriesFrom flat
 read-back front [] behind = refl
 read-back front (e ∷ es) behind =

@@ -7,7 +7,7 @@ ghost use lib.ListN.{length, take, drop};
 ghost use Rattle.order.specs.Order.{kth};
 ghost use Rattle.site.specs.Site.{numbersBefore};
 ghost use Rattle.order.specs.Order.{rankOf};
-ghost use Rattle.entries.specs.Entries.{width, words, pairOf, entryAt, entries, similarityOf, entryBefore, insertedWords, Inserts, belowEntry};
+ghost use Rattle.entries.specs.Entries.{width, words, pairOf, entryAt, entries, similarityOf, entryBefore, Ordered, insertedWords, Inserts, belowEntry};
 use site::Context;
 use walk::Fraction;
 use walk::below;
@@ -79,20 +79,41 @@ pub fn entry_at(list: &[u16], i: usize) -> Entry
     }
 }
 
-// How many of the listed entries stay before e.
-fn find_rank(list: &[u16], found: usize, e: Entry) -> usize
+// How many of the listed entries stay before e, which comes before the last one: by halving.
+fn halve(list: &[u16], found: usize, e: Entry) -> usize
     requires { ⌜ (width * found ≤ length (now list)) × (found ≤ 64) ⌝ }
+    requires { ⌜ Ordered (now list) found × (0 < e .union) ⌝ }
+    requires { ⌜ rankOf entryBefore e (entries found (now list)) < found ⌝ }
     ensures { λ r. ⌜ r ≡ rankOf entryBefore e (entries found (now (list .entry))) ⌝ }
 {
-    let mut i: usize = 0;
-    while i < found {
-        let f = entry_at(list, i);
+    let mut lo = 0;
+    let mut hi = found - 1;
+    while lo < hi {
+        let mid = (lo + hi) / 2;
+        let f = entry_at(list, mid);
         if rank_before(e, f) {
-            return i;
+            hi = mid;
+        } else {
+            lo = mid + 1;
         }
-        i += 1;
     }
-    found
+    lo
+}
+
+// How many of the listed entries stay before e: all where it does not come before the last one.
+fn find_rank(list: &[u16], found: usize, e: Entry) -> usize
+    requires { ⌜ (width * found ≤ length (now list)) × (found ≤ 64) ⌝ }
+    requires { ⌜ Ordered (now list) found × (0 < e .union) ⌝ }
+    ensures { λ r. ⌜ r ≡ rankOf entryBefore e (entries found (now (list .entry))) ⌝ }
+{
+    if found == 0 {
+        return 0;
+    }
+    let f = entry_at(list, found - 1);
+    if !rank_before(e, f) {
+        return found;
+    }
+    halve(list, found, e)
 }
 
 // Moves the words from a up to b up by an entry, the last one first.
@@ -125,12 +146,15 @@ fn smaller(x: usize, y: usize) -> usize
 }
 
 // Lists e among the first `found` entries, and keeps the best k. It answers how many are listed.
+// Where k are listed, one look at the k-th turns an entry away that comes behind it.
 pub fn insert(list: &mut [u16], found: usize, k: usize, e: Entry) -> usize
     requires { ⌜ (found ≤ k) × (k ≤ 64) ⌝ }
     requires { ⌜ width * k ≤ length (now list) ⌝ }
+    requires { ⌜ Ordered (now list) found × (0 < e .union) ⌝ }
     ensures { λ r. ⌜ r ≡ min k (found + 1) ⌝ }
     ensures { λ r. ⌜ now (list .exit) ≡ insertedWords k e found (now (list .entry)) ⌝ }
     ensures { λ r. ⌜ Inserts k e found (now (list .entry)) (now (list .exit)) ⌝ }
+    ensures { λ r. ⌜ Ordered (now (list .exit)) r ⌝ }
 {
     let p = find_rank(list, found, e);
     if p >= k {

@@ -2,6 +2,8 @@
 // of two contexts the places of their first shared code, shared and union, of two fractions or entries whether each comes first,
 // of an insertion how many are listed and the list's words.
 ghost use mathlib.Core.Path.{_≡_};
+ghost use Prim.Native.Nat.{_<_};
+ghost use Rattle.entries.specs.Entries.{Ordered};
 ghost use Rattle.tables.specs.Checks.{numberOf, placeOf};
 use entries::Entry;
 use entries::insert;
@@ -109,7 +111,9 @@ fn say_below(name: &[u8], n: u16, d: u16, m: u16, e: u16) {
     say_two(name, bit(below(a, b)), bit(below(b, a)));
 }
 
-fn entry(lower: u16, higher: u16, shared: u16, union: u16) -> Entry {
+fn entry(lower: u16, higher: u16, shared: u16, union: u16) -> Entry
+    ensures { λ r. ⌜ r .union ≡ union ⌝ }
+{
     Entry {
         lower: Context(lower),
         higher: Context(higher),
@@ -123,7 +127,10 @@ fn say_rank(name: &[u8], e: Entry, f: Entry) {
 }
 
 // Lists an entry among the best 3.
-fn say_insert(name: &[u8], list: &mut [u16], found: usize, e: Entry) -> usize {
+fn say_insert(name: &[u8], list: &mut [u16], found: usize, e: Entry) -> usize
+    requires { ⌜ Ordered (now list) found × (0 < e .union) ⌝ }
+    ensures { λ r. ⌜ Ordered (now (list .exit)) r ⌝ }
+{
     if found > 3 {
         return found;
     }

@@ -21,12 +21,12 @@ use Rattle.trail.proofs.Loop.{Unreached, unreached}
 use Rattle.words.proofs.Lists.{getElem?-is, getElem?-none}
 use Rattle.words.proofs.Split.{by-le}
 use Rattle.agenda.specs.Agenda.{firstEvents}
-use Rattle.agenda.specs.Next.{nextIs, noEvent}
+use Rattle.agenda.specs.Next.{nextIs, eventIs, noEvent}
 use Rattle.agenda.specs.declared.Next.{Next}
 use Rattle.agenda.specs.declared.Next.the-variants.{At, Over}
 use Rattle.agenda.proofs.Counts.{split-at, eventAt, left-is}
 use Rattle.agenda.proofs.Coming.{Coming, coming}
-use Rattle.search.specs.Search.{eventIs, dueOf}
+use Rattle.search.specs.Search.{dueOf}
 
 -- an event is there, or none
 at-over : {X : Type 0} {c : Context} {p : Place} → At c p ≡ Over → X

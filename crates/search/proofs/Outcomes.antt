@@ -1,5 +1,5 @@
 -- The outcome of the search from what its parts leave in the buffers.
--- The three buffers are cleared first; at the end the work area is cleared again, and after a refusal the other two as well.
+-- The list is cleared first; at the end the trail behind what is met, and the work area. After a refusal all three are.
 use mathlib.Core.List.{List}
 use mathlib.Core.Path.{_≡_, sym, ap, _∙_}
 use Prim.Native.Nat.{ℕ, _-_, _*_, _≤_, _<_}
@@ -10,13 +10,15 @@ use borrow.Author.Tests.{lt-ltb, le-ltb}
 use Rattle.site.specs.Measure.{inUse}
 use Rattle.site.specs.Site.{Site, listOf}
 use Rattle.site.specs.Events.{trail as trailOf}
-use Rattle.words.specs.Words.{padded}
+use Rattle.words.specs.Words.{padded, zeroedFrom}
 use Rattle.words.proofs.Split.{by-le}
+use Rattle.words.proofs.Words.{begins-zeroed}
 use Rattle.entries.specs.Listed.{entryWords}
 use Rattle.search.specs.Outcome.{outcome, zeros, trailWords, searchOf}
 use Rattle.search.specs.Search.{Searched}
 use Rattle.search.specs.declared.Answer.{Answer}
 use Rattle.search.specs.declared.Answer.the-variants as answer
+use Rattle.search.proofs.Kept.{trail-length}
 
 -- what `clear` leaves
 pub all-zero : (n : ℕ) {out : List ℕ} → out ≡ replicate (n - 0) 0 → out ≡ replicate n 0
@@ -43,22 +45,28 @@ module _ {site : Site} {k : ℕ} {list buffer : List ℕ} {r : Answer} (w : Sear
 
   -- list₀, work₀ and buffer₀ are the buffers at entry
   module _ (list₀ work₀ buffer₀ : List ℕ) {work : List ℕ} (ll : length list ≡ length list₀) (lb : length buffer ≡ length buffer₀) (cleared : work ≡ zeros work₀) where
-    pub search-full : {n p : ℕ} → r ≡ answer.Refused n p → {list′ buffer′ : List ℕ} → list′ ≡ zeros list → buffer′ ≡ zeros buffer → outcome (answer.Refused n p) list′ work buffer′ ≡ searchOf k site list₀ work₀ buffer₀
+    pub search-full : {n p : ℕ} → r ≡ answer.Refused n p → {list′ buffer′ : List ℕ} → list′ ≡ zeros list → buffer′ ≡ zeros buffer → outcome r list′ work buffer′ ≡ searchOf k site list₀ work₀ buffer₀
     unfolding searchOf
     search-full e a b =
         let h = refused-full e in
         let t : length buffer₀ < 2 * length (trailOf inUse site k) = omega (arith, h) in
         let l = zeros-as list₀ (length list) a ll in
         let m = zeros-as buffer₀ (length buffer) b lb in
-        let q = sym e ∙ w .full h in
+        let q = w .full h in
         rw (lt-ltb (length buffer₀) (2 * length (trailOf inUse site k)) t) (λ i. record { answer = q i; list = l i; work = cleared i; trail = m i })
 
-    pub search-told : {f e m : ℕ} → r ≡ answer.Listed f e m → outcome r list work buffer ≡ searchOf k site list₀ work₀ buffer₀
+    pub search-told : {f e m : ℕ} → r ≡ answer.Listed f e m → {buffer′ : List ℕ} → buffer′ ≡ zeroedFrom buffer (2 * m) → outcome (answer.Listed f e m) list work buffer′ ≡ searchOf k site list₀ work₀ buffer₀
     unfolding searchOf
-    search-told e =
-        let h = counted-fits e in
+    search-told {f} {e} {m} z {buffer′} cut =
+        let h = counted-fits z in
         let t : 2 * length (trailOf inUse site k) ≤ length buffer₀ = omega (arith, h) in
-        let q = w .told h in
+        let q = sym z ∙ w .told h in
         let l : list ≡ padded (length list₀) (entryWords site (listOf inUse site k)) = rw (← ll) (w .listed h) in
-        let b : buffer ≡ padded (length buffer₀) (trailWords (trailOf inUse site k)) = rw (← lb) (w .trailed h) in
+        let n : m ≡ length (trailOf inUse site k) = cc q in
+        let i : 2 * m ≡ length (trailWords (trailOf inUse site k)) = omega (arith, n, trail-length (trailOf inUse site k)) in
+        let b : buffer′ ≡ padded (length buffer₀) (trailWords (trailOf inUse site k)) = cut ∙ begins-zeroed buffer (trailWords (trailOf inUse site k)) i (w .trailed h) ∙ ap (λ (i : ℕ). padded i (trailWords (trailOf inUse site k))) lb in
         rw (le-ltb (length buffer₀) (2 * length (trailOf inUse site k)) t) (λ i. record { answer = q i; list = l i; work = cleared i; trail = b i })
+
+  -- the counted pairs are on the trail
+  pub counted-room : {f e m : ℕ} → r ≡ answer.Listed f e m → 2 * m ≤ length buffer
+  counted-room {f} {e} {m} z = let h = counted-fits z in let n : m ≡ length (trailOf inUse site k) = cc (z, w .told h) in omega (arith, h, n)

@@ -17,13 +17,15 @@ use Rattle.site.proofs.Measures.{in-use-lawful}
 use Rattle.trail.proofs.Loop.{Reached, loop-goes, loop-ends, loop-prefix}
 use Rattle.tables.specs.Sound.{Sound}
 use Rattle.tables.proofs.Sound.{sound-rises}
+use Rattle.marks.specs.Marks.{marksOf}
 use Rattle.agenda.specs.Agenda.{firstEvents, Agenda}
 use Rattle.agenda.specs.Next.{nextIs}
 use Rattle.agenda.specs.declared.Next.the-variants.{At, Over}
 use Rattle.agenda.proofs.Counts.{events-many, split-at, left-is, one-more}
 use Rattle.agenda.proofs.Coming.{Coming, coming}
 use Rattle.agenda.proofs.Standing.{done-length}
-use Rattle.search.specs.Search.{eventIs, dueOf, Kept, Searched}
+use Rattle.agenda.specs.Next.{eventIs}
+use Rattle.search.specs.Search.{pairWords, agendaPart, pairsPart, dueOf, After, Searched}
 use Rattle.search.specs.Outcome.{zeros}
 use Rattle.search.specs.declared.Counts.{Counts}
 use Rattle.search.specs.declared.Answer.the-variants as answer
@@ -32,18 +34,18 @@ use Rattle.search.proofs.Due.{due-at, due-end}
 
 -- after j events: the buffers, every event done reaches the cut-off of all, and what is met has room
 pub record Searching (os cs : List ℕ) (k j : ℕ) (list₀ work₀ buffer₀ list work buffer : List ℕ) (n : Counts) : Type 0 where
-  pub kept : Kept (siteOf os cs) k (metAfter inUse (siteOf os cs) j) list buffer n
-  pub agenda : Agenda (siteOf os cs) j work
+  pub after : After (siteOf os cs) k (metAfter inUse (siteOf os cs) j) list work buffer n
+  pub agenda : Agenda (siteOf os cs) j (agendaPart work)
   pub reached : Reached inUse (siteOf os cs) (cutOff inUse (siteOf os cs) k) (firstEvents (siteOf os cs) j)
   pub fits : 2 * length (metAfter inUse (siteOf os cs) j) ≤ length buffer
   pub list-long : length list ≡ length list₀
   pub work-long : length work ≡ length work₀
   pub buffer-long : length buffer ≡ length buffer₀
 
-pub searching-start : {os cs : List ℕ} {k : ℕ} {list work buffer : List ℕ} → list ≡ zeros list → buffer ≡ zeros buffer → Agenda (siteOf os cs) 0 work → Searching os cs k 0 list work buffer list work buffer (record { found = 0; met = 0 })
+pub searching-start : {os cs : List ℕ} {k : ℕ} {list work buffer : List ℕ} → list ≡ zeros list → Agenda (siteOf os cs) 0 (agendaPart work) → pairsPart work ≡ marksOf pairWords [] → Searching os cs k 0 list work buffer list work buffer (record { found = 0; met = 0 })
 unfolding metAfter metFrom
-searching-start {os} {cs} {k} l b A = record {
-  kept = kept-start (siteOf os cs) k l b;
+searching-start {os} {cs} {k} l A e = record {
+  after = record { kept = kept-start (siteOf os cs) k l; seen = λ h. e };
   agenda = A;
   reached = λ f i. absurd (not-nil i);
   fits = omega arith;
@@ -72,14 +74,14 @@ module _ {os cs : List ℕ} (s : Sound os cs) {k j : ℕ} {list₀ work₀ buffe
         let f : firstEvents site (j + 1) ≡ firstEvents site j ++ eventIs c p ∷ [] = rw (add-one j) (one-more site j (m .more) ∙ ap (λ (x : Event). firstEvents site j ++ x ∷ []) (sym (m .event))) in
         rw f g
 
-    module _ {list′ buffer′ : List ℕ} {n′ : Counts} (kept : Kept (siteOf os cs) k (metAfter inUse (siteOf os cs) (j + 1)) list′ buffer′ n′) where
+    module _ {list′ work′ buffer′ : List ℕ} {n′ : Counts} (after : After (siteOf os cs) k (metAfter inUse (siteOf os cs) (j + 1)) list′ work′ buffer′ n′) where
       -- one event more
-      pub searching-next : {work′ : List ℕ} → n′ .met ≤ length buffer′ / 2 → Agenda (siteOf os cs) (j + 1) work′ → length list′ ≡ length list → length work′ ≡ length work → length buffer′ ≡ length buffer → Searching os cs k (j + 1) list₀ work₀ buffer₀ list′ work′ buffer′ n′
+      pub searching-next : n′ .met ≤ length buffer′ / 2 → Agenda (siteOf os cs) (j + 1) (agendaPart work′) → length list′ ≡ length list → length work′ ≡ length work → length buffer′ ≡ length buffer → Searching os cs k (j + 1) list₀ work₀ buffer₀ list′ work′ buffer′ n′
       searching-next h agenda a b e = record {
-        kept = kept;
+        after = after;
         agenda = agenda;
         reached = next-reached;
-        fits = omega (arith, kept .met);
+        fits = omega (arith, after .kept .met);
         list-long = a ∙ w .list-long;
         work-long = b ∙ w .work-long;
         buffer-long = e ∙ w .buffer-long;
@@ -94,9 +96,9 @@ module _ {os cs : List ℕ} (s : Sound os cs) {k j : ℕ} {list₀ work₀ buffe
           let l = ap length t ∙ length-append (metAfter inUse site (j + 1)) _ in
           record {
             full = λ z. refl;
-            told = λ z. absurd (omega (arith, l, kept .met));
-            listed = λ z. absurd (omega (arith, l, kept .met));
-            trailed = λ z. absurd (omega (arith, l, kept .met));
+            told = λ z. absurd (omega (arith, l, after .kept .met));
+            listed = λ z. absurd (omega (arith, l, after .kept .met));
+            trailed = λ z. absurd (omega (arith, l, after .kept .met));
           }
 
   -- ---- none is due: the search has its answer
@@ -106,12 +108,12 @@ module _ {os cs : List ℕ} (s : Sound os cs) {k j : ℕ} {list₀ work₀ buffe
   searching-end d =
       let site = siteOf os cs in
       let a = loop-ends in-use-lawful (sound-rises s) k (firstEvents site j) (drop j (eventsOf inUse site)) (split-at site j) (w .reached) (due-end site k j (sound-rises s) d) in
-      let found = rw (← (a .listed)) at (w .kept .listed .count) in
+      let found = rw (← (a .listed)) at (w .after .kept .listed .count) in
       let events = sym (ap length (a .events) ∙ done-length s (w .agenda)) in
-      let met = rw (← (a .trailed)) at (w .kept .met) in
+      let met = rw (← (a .trailed)) at (w .after .kept .met) in
       record {
         full = λ h. absurd (omega (arith, w .fits, ap length (a .trailed)));
         told = λ h i. answer.Listed (found i) (events i) (met i);
-        listed = λ h. rw (a .listed) (w .kept .listed .holds);
-        trailed = λ h. rw (a .trailed) (w .kept .trailed (w .fits));
+        listed = λ h. rw (a .listed) (w .after .kept .listed .holds);
+        trailed = λ h. rw (a .trailed) (w .after .kept .trailed (w .fits));
       }

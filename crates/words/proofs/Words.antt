@@ -1,13 +1,13 @@
--- Laws of `flat` and `padded`.
+-- Laws of `flat`, `padded` and `Begins`.
 use mathlib.Core.List.{List, [], _∷_, _++_, append-assoc, append-nil}
-use mathlib.Core.Path.{_≡_, refl, sym, ap, ap₂, _∙_}
+use mathlib.Core.Path.{_≡_, refl, sym, ap, _∙_}
 use Prim.Native.Nat.{ℕ, zero, suc, _+_, _-_, _*_, _≤_, _<_}
 use native.Mathlib.Nat.{not-suc-le-zero, le-of-suc-le-suc, sub-zero, add-comm, mul-suc}
 use native.Mathlib.Omega.{arith}
-use lib.ListN.{length, getD, set, drop, replicate, length-append, length-replicate, length-set, List·getD-append, List·getD-eq-default}
-use lib.Seq.{getD-append-add, drop-append-add, set-append-left, set-append-seam, append-snoc}
-use Rattle.words.specs.Words.{flat, padded, Holds}
-use Rattle.words.proofs.Lists.{drop-replicate}
+use lib.ListN.{length, getD, set, take, drop, replicate, length-append, length-replicate, length-set, List·getD-append, List·getD-eq-default}
+use lib.Seq.{getD-append-add, drop-append-add, take-at, set-append-left, set-append-seam, append-snoc}
+use Rattle.words.specs.Words.{flat, padded, Holds, Begins}
+use Rattle.words.proofs.Lists.{drop-replicate, two-sets}
 use Rattle.words.proofs.Split.{by-le}
 
 module _ {A : Type 0} (words : A → List ℕ) where
@@ -81,15 +81,24 @@ module _ (n : ℕ) (ws : List ℕ) where
       let e : n - length ws ≡ suc (n - length (ws ++ v ∷ [])) = omega (arith, length-append ws (v ∷ [])) in
       rw e (set-append-seam ws 0 _ v) ∙ sym (append-snoc ws v _)
 
--- two more words
-pub padded-two : (n : ℕ) (ws : List ℕ) (a b i : ℕ) → i ≡ length ws → i + 2 ≤ n → set (set (padded n ws) i a) (i + 1) b ≡ padded n (ws ++ a ∷ b ∷ [])
-padded-two n ws a b i e h =
-    let l : i + 1 ≡ length (ws ++ a ∷ []) = omega (arith, length-append ws (a ∷ [])) in
-    ap₂ (λ (k m : ℕ). set (set (padded n ws) k a) m b) e l
-    ∙ rw (padded-push n ws a (omega arith)) (padded-push n (ws ++ a ∷ []) b (omega arith))
-    ∙ ap (padded n) (append-snoc ws a (b ∷ []))
-
 -- nothing but zeros
 pub padded-none : (n : ℕ) → replicate n 0 ≡ padded n []
 unfolding padded
 padded-none n = rw sub-zero
+
+-- ---- a buffer that begins with some words
+
+module _ (buffer ws : List ℕ) {i : ℕ} (e : i ≡ length ws) (h : Begins buffer ws) where
+  front : take i buffer ≡ ws
+  front = rw e h
+
+  -- two more words
+  pub begins-two : (a b : ℕ) → i + 2 ≤ length buffer → Begins (set (set buffer i a) (i + 1) b) (ws ++ a ∷ b ∷ [])
+  begins-two a b k =
+      let w : set (set buffer i a) (i + 1) b ≡ take i buffer ++ (a ∷ b ∷ []) ++ drop (i + 2) buffer = two-sets buffer i a b k in
+      rw (w, front) (take-at (ws ++ a ∷ b ∷ []) (drop (i + 2) buffer) _ refl)
+
+  -- with zeros behind them
+  pub begins-zeroed : take i buffer ++ replicate (length buffer - i) 0 ≡ padded (length buffer) ws
+  unfolding padded
+  begins-zeroed = rw (front, e)

@@ -10,13 +10,13 @@ shared-slice-read-start : tie.Need-shared-slice-read-start
 shared-slice-read-start c = let s = c .before in omega (arith, s .pre .1 .0 .room, s .pre .1 .1)
 
 cast-start : tie.Need-cast-start
-cast-start c = omega (arith, c .shared-slice-known .given (272 + c .before .args .code))
+cast-start c = omega (arith, c .shared-slice-known .given (1026 + c .before .args .code))
 
 shared-slice-read-end : tie.Need-shared-slice-read-end
 shared-slice-read-end c = let s = c .before .before in omega (arith, s .pre .1 .0 .room, s .pre .1 .1)
 
 cast-end : tie.Need-cast-end
-cast-end c = omega (arith, c .shared-slice-known2 .given (273 + c .before .before .args .code))
+cast-end c = omega (arith, c .shared-slice-known2 .given (1027 + c .before .before .args .code))
 
 sub-if1 : tie.Need-sub-if1
 sub-if1 c = let s = c .before .before in bucket-rises (s .pre .0) (s .pre .1 .0) (s .pre .1 .1)

@@ -15,14 +15,14 @@ Inv-events k offsets codes list₀ work₀ trail₀ counts₀ events₀ list wor
 abbrev μ-events : tie.MeasureT-events
 μ-events k offsets codes list₀ work₀ trail₀ counts₀ events₀ list work trail counts events = length codes - events
 
-prepare-requires : tie.Need-prepare-requires Inv-events μ-events
-prepare-requires c κs = let u = c .before .before .before .before .before .before .pre in (u .0, (u .1 .1 .0 .1, u .1 .1 .1 .0 .1))
+lay-work-requires : tie.Need-lay-work-requires Inv-events μ-events
+lay-work-requires c κs = let u = c .before .before .before .before .before .before .pre in (u .0, u .1 .1 .0 .1)
 
 events-holds : tie.Need-events-holds Inv-events μ-events
-events-holds c = let u = c .before .before .before .before .before .before .before .before .before .pre in searching-start (u .1 .1 .1 .0 .0) (u .1 .1 .1 .1) (c .before .before .prepare .ensures)
+events-holds c = let u = c .before .before .before .before .before .before .before .before .before .pre in searching-start (u .1 .1 .1) (c .before .before .lay-work .ensures .0) (c .before .before .lay-work .ensures .1)
 
 event-due-requires : tie.Need-event-due-requires Inv-events μ-events
-event-due-requires c κs = let l = c .before .before in let w = l .events .inv in let u = l .before .before .before .before .before .before .before .before .before .before .pre in (u .0, (w .agenda, (u .1 .0, (omega (arith, w .list-long, u .1 .1 .0 .0), w .kept .listed))))
+event-due-requires c κs = let l = c .before .before in let w = l .events .inv in let u = l .before .before .before .before .before .before .before .before .before .before .pre in (u .0, ((omega (arith, w .work-long, l .before .before .before .lay-work .kept .1 .1 .0, u .1 .1 .0 .1), w .agenda), (u .1 .0, (omega (arith, w .list-long, u .1 .1 .0 .0), w .after .kept .listed))))
 
 do-event-requires : tie.Need-do-event-requires Inv-events μ-events
 do-event-requires c κs = let d = c .before .before .before .before .before .before in
@@ -30,7 +30,7 @@ do-event-requires c κs = let d = c .before .before .before .before .before .bef
     let w = l .events .inv in
     let s = l .before .before .before .before .before .before .before .before .before .before in
     let due = sym (d .event-due .ensures) ∙ c .before .before .before .before .next .given .1 in
-    (s .pre .0, (w .agenda, (due-at (siteOf (s .args .offsets .now) (s .args .codes .now)) (s .args .k) _ due .0, ((s .pre .1 .0 .1, omega (arith, w .list-long, s .pre .1 .1 .0 .0)), w .kept))))
+    (s .pre .0, ((omega (arith, w .work-long, l .before .before .before .lay-work .kept .1 .1 .0, s .pre .1 .1 .0 .1), w .agenda), (due-at (siteOf (s .args .offsets .now) (s .args .codes .now)) (s .args .k) _ due .0, ((s .pre .1 .0 .1, omega (arith, w .list-long, s .pre .1 .1 .0 .0)), w .after))))
 
 add-events : tie.Need-add-events Inv-events μ-events
 add-events c = let n = c .before .before .before .before .before .before .before .before .before .before .before in
@@ -43,7 +43,7 @@ same-length : tie.Need-same-length Inv-events μ-events
 same-length c = let e = c .before .before .before .before .before .before .before in let l = e .before .before .before .before .before .before .before .before .before .before in e .do-event .kept .1 .1 .1 .0 ∙ l .events .inv .list-long
 
 same-length-2 : tie.Need-same-length-2 Inv-events μ-events
-same-length-2 c = let e = c .before .before .before .before .before .before .before in let l = e .before .before .before .before .before .before .before .before .before .before in e .do-event .kept .1 .1 .1 .1 .0 ∙ l .events .inv .work-long ∙ l .before .before .before .prepare .kept .1 .1 .0
+same-length-2 c = let e = c .before .before .before .before .before .before .before in let l = e .before .before .before .before .before .before .before .before .before .before in e .do-event .kept .1 .1 .1 .1 .0 ∙ l .events .inv .work-long ∙ l .before .before .before .lay-work .kept .1 .1 .0
 
 same-length-3 : tie.Need-same-length-3 Inv-events μ-events
 same-length-3 c = let e = c .before .before .before .before .before .before .before in let l = e .before .before .before .before .before .before .before .before .before .before in e .do-event .kept .1 .1 .1 .1 .1 .0 ∙ l .events .inv .buffer-long
@@ -76,7 +76,7 @@ same-length-4 : tie.Need-same-length-4 Inv-events μ-events
 same-length-4 c = c .before .before .before .before .before .events .inv .list-long
 
 same-length-5 : tie.Need-same-length-5 Inv-events μ-events
-same-length-5 c = let l = c .before .before .before .before .before in l .events .inv .work-long ∙ l .before .before .before .prepare .kept .1 .1 .0
+same-length-5 c = let l = c .before .before .before .before .before in l .events .inv .work-long ∙ l .before .before .before .lay-work .kept .1 .1 .0
 
 same-length-6 : tie.Need-same-length-6 Inv-events μ-events
 same-length-6 c = c .before .before .before .before .before .events .inv .buffer-long
@@ -90,7 +90,7 @@ run-spec =
     (tie.spec
     Inv-events
     μ-events
-    prepare-requires
+    lay-work-requires
     events-holds
     event-due-requires
     (λ c. search needs)

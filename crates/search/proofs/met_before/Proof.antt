@@ -1,0 +1,36 @@
+use Rattle.search.proofs.Seen.{number-inside, few-inside, seen-told}
+use Rattle.search.proofs.Areas.{pairs-long}
+use Rattle.search.specs.Search.{pairsPart}
+use Rattle.marks.specs.Marks.{isMarked}
+use Rattle.order.proofs.Lists.{never}
+use native.Mathlib.Omega.{arith}
+use Prim.Native.Nat.{ℕ}
+use mathlib.Core.Path.{refl, sym, ap, _∙_}
+use borrow.Author.Needs.{needs}
+use Rattle.search.proofs.met_before.Statement.{statement}
+use Rattle.search.proofs.met_before.Tie as tie
+
+returns : tie.Need-returns
+returns c = λ t. never t refl
+
+is-marked-requires : tie.Need-is-marked-requires
+is-marked-requires c κs = let s = c .before .before .before .before .before .before in
+    let f = few-inside (s .pre .0) (s .args .c) (s .args .d) (s .pre .1 .0 .0) (s .pre .1 .0 .1) (c .before .before .if1 .left) in
+    omega (arith, c .before .pair-number .ensures, number-inside (s .args .c) (s .args .d) (f .0) (f .1), pairs-long (s .args .work .now) (s .pre .1 .1))
+
+returns-2 : tie.Need-returns-2
+returns-2 c = let s = c .before .before .before .before .before .before .before in
+    λ t. seen-told (s .pre .0) (s .args .c) (s .args .d) (s .pre .1 .0 .0) (s .pre .1 .0 .1) (c .before .before .before .if1 .left) (s .args .work .now) (sym (c .is-marked .ensures ∙ ap (λ (n : ℕ). isMarked (pairsPart (s .args .work .now)) n) (c .before .before .pair-number .ensures)) ∙ t)
+
+pub met-before-spec : {M : Type 1} → statement M
+met-before-spec =
+    tie.close
+    (tie.spec
+    (λ c. search needs)
+    returns
+    (λ c κs. search needs)
+    (λ c. search needs)
+    (λ c. search needs)
+    (λ c. search needs)
+    is-marked-requires
+    returns-2)
