@@ -268,7 +268,7 @@ fn near_ratios(random: &mut Random) -> Contexts {
 }
 
 /// How many kinds of large sites `large_site` knows.
-pub const LARGE_KINDS: usize = 10;
+pub const LARGE_KINDS: usize = 12;
 
 /// A large sound site, of up to 256 contexts and 4096 codes.
 pub fn large_site(random: &mut Random, kind: usize) -> Contexts {
@@ -317,6 +317,24 @@ pub fn large_site(random: &mut Random, kind: usize) -> Contexts {
         8 => {
             let pool = pool(random, 300);
             (0..100).map(|_| subset(random, &pool, 15)).collect()
+        }
+        // Where the search goes another way: about 32, 64, 110 and 128 contexts, with some of about 48 codes and some long ones.
+        9 | 10 => {
+            let pool = pool(random, 400);
+            let contexts = *random.pick(&[32, 33, 64, 65, 110, 111, 128, 129, 256]);
+            let mut left = 4096;
+            let mut site = Contexts::new();
+            while site.len() < contexts {
+                let size = match random.below(40) {
+                    0 => random.between(60, 300),
+                    1..=4 => random.between(47, 50),
+                    _ => random.between(0, 10),
+                };
+                let size = size.min(left);
+                left -= size;
+                site.push(subset(random, &pool, size));
+            }
+            site
         }
         // Uneven sizes, up to 4096 codes in all.
         _ => {

@@ -8,7 +8,7 @@ use crate::paper::{self, Rooms};
 use crate::random::{large_site, seed_of, small_site, tables, Random, KINDS};
 
 const SMALL: u64 = 30_000;
-const LARGE: u64 = 80;
+const LARGE: u64 = 120;
 /// Trials from this number on are of large sites.
 const FIRST_LARGE: u64 = 1_000_000;
 
