@@ -57,10 +57,10 @@ module _ (site : Site) (done : List Event) where
   -- ---- one bucket
 
   -- a posting that fits
-  abbrev pub Fits : Type 0
-  Fits = (x : ℕ) → length (postingOf site done x) ≤ often (allCodes site) x
+  abbrev pub PostingsFit : Type 0
+  PostingsFit = (x : ℕ) → length (postingOf site done x) ≤ often (allCodes site) x
 
-  module _ (fits : Fits) where
+  module _ (fits : PostingsFit) where
     bucket-length : (x : ℕ) → length (bucket site done x) ≡ often (allCodes site) x
     unfolding bucket
     bucket-length x = padded-length (often (allCodes site) x) (map mark (postingOf site done x)) (omega (arith, fits x, length-map (postingOf site done x) mark))
@@ -109,7 +109,7 @@ module _ (site : Site) (done : List Event) (e : Event) where
   unfolding postingOf keep
   posting-other y d = sym (posting-add site done e y ∙ rw (ne-eqb (codeAt site e) y (λ q. d (sym q))) (append-nil _))
 
-  module _ (fits : Fits site (done ++ e ∷ [])) where
+  module _ (fits : PostingsFit site (done ++ e ∷ [])) where
     -- there is a word for it
     pub posting-room : length (postingOf site done (codeAt site e)) < often (allCodes site) (codeAt site e)
     posting-room = omega (arith, fits (codeAt site e), ap length posting-here, length-append (postingOf site done (codeAt site e)) (e ∷ []))
@@ -127,7 +127,7 @@ module _ (site : Site) (done : List Event) (e : Event) where
     unfolding bucket
     bucket-other y d = rw (posting-other y d)
 
-    pub buckets-next : Fits site done → codeAt site e < 4096
+    pub buckets-next : PostingsFit site done → codeAt site e < 4096
         → set (buckets site done) (codesBelow (allCodes site) (codeAt site e) + length (postingOf site done (codeAt site e))) (mark e) ≡ buckets site (done ++ e ∷ [])
     unfolding buckets
     buckets-next old h =

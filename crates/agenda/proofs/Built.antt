@@ -12,9 +12,9 @@ use Rattle.tables.specs.Sound.{Sound}
 use Rattle.tables.proofs.Cuts.{all-codes}
 use Rattle.words.specs.Words.{padded}
 use Rattle.words.proofs.Words.{padded-at}
-use Rattle.agenda.specs.Agenda.{countIn, tails, agendaWords, Agenda, summed, Laid}
+use Rattle.agenda.specs.Agenda.{countIn, tails, agendaWords, Agenda, summed, LaidOut}
 use Rattle.agenda.specs.Layout.{agendaRoom}
-use Rattle.agenda.specs.Tournament.{leftOf, leftIn, nodeWord, topOf, Ranked}
+use Rattle.agenda.specs.Tournament.{leftOf, leftIn, nodeWord, topNode, NodesPlayed}
 use Rattle.agenda.specs.Postings.{codesBelow, starts, buckets}
 use Rattle.site.proofs.Rows.{row-same}
 use Rattle.agenda.proofs.Counting.{below-few}
@@ -29,15 +29,15 @@ use Rattle.agenda.proofs.Ranks.{Framed, framed-start, framed-left, fram
 -- those behind t are built
 pub record Building (os cs : List ℕ) (top : ℕ) (start now : List ℕ) (t : ℕ) : Type 0 where
   pub sound : Sound os cs
-  pub laid : Laid (siteOf os cs) cs start
-  pub ranked : Ranked t now
+  pub laid : LaidOut (siteOf os cs) cs start
+  pub ranked : NodesPlayed t now
   pub room : agendaRoom ≤ length now
   pub small : t < 256
-  pub is : top ≡ topOf (length (siteOf os cs))
+  pub is : top ≡ topNode (length (siteOf os cs))
   pub low : 0 < top
   pub framed : Framed top start now
 
-pub building-start : {os cs work : List ℕ} → Sound os cs → Laid (siteOf os cs) cs work → {top : ℕ} → top ≡ topOf (length os - 1) → Building os cs top work work 255
+pub building-start : {os cs work : List ℕ} → Sound os cs → LaidOut (siteOf os cs) cs work → {top : ℕ} → top ≡ topNode (length os - 1) → Building os cs top work work 255
 building-start {os} {cs} {work} s l {top} e =
     record { sound = s; laid = l; ranked = l .ranked; room = l .ranked .room; small = omega arith; is = e ∙ top-same s; low = omega (arith, e, top-same s, top-tree s .low); framed = framed-start top work }
 

@@ -11,7 +11,7 @@ use Rattle.walk.specs.declared.Fraction.{Fraction}
 use Rattle.words.proofs.Split.{by-eq}
 use Rattle.agenda.specs.declared.Contender.{Contender}
 use Rattle.agenda.specs.Layout.{agendaRoom}
-use Rattle.agenda.specs.Tournament.{leftIn, leafWord, ownWord, nodeWord, contenderOf, contenderAt, Ranked, Moved}
+use Rattle.agenda.specs.Tournament.{leftIn, leafWord, ownWord, nodeWord, contenderOf, contenderAt, NodesPlayed, Moved}
 use Rattle.agenda.proofs.Nodes.{leaf-is, leaf-either}
 use Rattle.agenda.proofs.Contenders.{word-is}
 use Rattle.agenda.proofs.Paths.{Agrees, Apart, agrees-word, apart-leaf, apart-up, contenders-same, node-same}
@@ -19,7 +19,7 @@ use Rattle.agenda.proofs.Ranks.{left-eq, left-kept, Framed, framed-star
 use Rattle.agenda.proofs.Subtrees.{Subtree, Under, under-leaf, under-least, under-up}
 
 pub record Climbing (top : ℕ) (start now : List ℕ) (t : ℕ) : Type 0 where
-  pub ranked : Ranked (max t (top - 1)) now
+  pub ranked : NodesPlayed (max t (top - 1)) now
   pub small : t < 256
   pub low : 0 < top
   pub framed : Framed top start now
@@ -31,7 +31,7 @@ pub record Climbing (top : ℕ) (start now : List ℕ) (t : ℕ) : Type 0 where
 abbrev pub lessened : List ℕ → ℕ → ℕ → ℕ → List ℕ
 lessened old w x own = set (set old w x) (769 + w) own
 
-module _ {old : List ℕ} {n top : ℕ} (T : Subtree n top) (R : Ranked (top - 1) old) (w : ℕ) (some : 0 < w) (few : w ≤ 256) (x : ℕ) {own : ℕ} (is : own ≡ leafWord x w) where
+module _ {old : List ℕ} {n top : ℕ} (T : Subtree n top) (R : NodesPlayed (top - 1) old) (w : ℕ) (some : 0 < w) (few : w ≤ 256) (x : ℕ) {own : ℕ} (is : own ≡ leafWord x w) where
   pub lessened-long : length (lessened old w x own) ≡ length old
   lessened-long = length-set (set old w x) (769 + w) own ∙ length-set old w x
 
@@ -101,7 +101,7 @@ pub record Ascending (top : ℕ) (start now : List ℕ) (t : ℕ) (best : Conten
   pub room : agendaRoom ≤ length now
   pub hand : best ≡ contenderAt (leftIn now) t
 
-module _ {old : List ℕ} {n top : ℕ} (T : Subtree n top) (R : Ranked (top - 1) old) (w : ℕ) (some : 0 < w) (few : w ≤ 256) (x : ℕ) {own : ℕ} (is : own ≡ leafWord x w) where
+module _ {old : List ℕ} {n top : ℕ} (T : Subtree n top) (R : NodesPlayed (top - 1) old) (w : ℕ) (some : 0 < w) (few : w ≤ 256) (x : ℕ) {own : ℕ} (is : own ≡ leafWord x w) where
   pub ascending-start : {best : Contender} → best ≡ contenderOf (leftIn (lessened old w x own)) own → w ≤ n → Ascending top (lessened old w x own) (lessened old w x own) (255 + w) best
   ascending-start q h = record {
     climbing = climbing-start T R w some few x is;
@@ -112,7 +112,7 @@ module _ {old : List ℕ} {n top : ℕ} (T : Subtree n top) (R : Ranked (top - 1
   }
 
 -- all that is asked of the node above it
-pub ascending-ranked : {top : ℕ} {start now : List ℕ} {t : ℕ} {best : Contender} → Ascending top start now t best → top < t → Ranked (t / 2) now
+pub ascending-ranked : {top : ℕ} {start now : List ℕ} {t : ℕ} {best : Contender} → Ascending top start now t best → top < t → NodesPlayed (t / 2) now
 ascending-ranked a h = ranked-from (a .climbing .ranked) (omega (arith, under-least (under-up (a .under) h)))
 
 pub ascending-next : {top : ℕ} {start now : List ℕ} {t : ℕ} {best : Contender} → Ascending top start now t best → top < t → {r : Contender} → r ≡ contenderAt (leftIn now) (t / 2) → Ascending top start (set now (514 + t / 2) (r .word)) (t / 2) r
@@ -130,7 +130,7 @@ ascending-next {top} {start} {now} {t} a h {r} e =
       hand = e ∙ contenders-same (leftIn now) (leftIn after) (λ w k. sym (left-kept now (514 + t / 2) (r .word) (omega arith) w k)) (t / 2) (omega arith) (omega arith);
     }
 
-pub leaf-room : {y : ℕ} {old : List ℕ} → Ranked y old → (w x : ℕ) → w ≤ 256 → 769 + w < length (set old w x)
+pub leaf-room : {y : ℕ} {old : List ℕ} → NodesPlayed y old → (w x : ℕ) → w ≤ 256 → 769 + w < length (set old w x)
 leaf-room {y} {old} R w x h = omega (arith, R .room, length-set old w x)
 
 pub leaf-inside : (x w : ℕ) {own : ℕ} → own ≡ leafWord x w → w ≤ 256 → own ≤ 256

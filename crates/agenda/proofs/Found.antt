@@ -18,7 +18,7 @@ use Rattle.tables.proofs.Sound.{size-small, contexts-are}
 use Rattle.agenda.specs.declared.Next.the-variants.{At, Over}
 use Rattle.agenda.specs.Agenda.{firstEvents, countIn, Agenda}
 use Rattle.walk.specs.declared.Fraction.{Fraction}
-use Rattle.agenda.specs.Tournament.{leftOf, leftIn, topOf, Ranked}
+use Rattle.agenda.specs.Tournament.{leftOf, leftIn, topNode, NodesPlayed}
 use Rattle.agenda.specs.Next.{nextIs, noEvent}
 use Rattle.agenda.proofs.Counts.{split-at, eventAt, left-is as rest-is, frontier}
 use Rattle.agenda.proofs.Standing.{left-at, node-at, top-same, top-tree}
@@ -27,14 +27,14 @@ use Rattle.agenda.proofs.Paths.{node-same}
 
 module _ {os cs work : List ℕ} {j : ℕ} (s : Sound os cs) (A : Agenda (siteOf os cs) j work) where
   -- the nodes from the top on have their words
-  pub all-ranked : Ranked (topOf (length os - 1) - 1) work
+  pub all-ranked : NodesPlayed (topNode (length os - 1) - 1) work
   all-ranked =
       let f = leftOf (siteOf os cs) (countIn (firstEvents (siteOf os cs) j)) in
       let low = top-tree s .low in
       rw (top-same s) (record { room = A .room; nodes = λ t z h. node-at s A t (omega arith) h ∙ node-same f (leftIn work) (λ w k. sym (left-at s A w k)) t (omega arith) h })
 
 -- read from the top
-module _ {os cs work : List ℕ} {j : ℕ} (s : Sound os cs) (A : Agenda (siteOf os cs) j work) {top : ℕ} (is : top ≡ topOf (length os - 1)) where
+module _ {os cs work : List ℕ} {j : ℕ} (s : Sound os cs) (A : Agenda (siteOf os cs) j work) {top : ℕ} (is : top ≡ topNode (length os - 1)) where
   abbrev word : ℕ
   word = getD work (514 + top) 0
 
@@ -45,7 +45,7 @@ module _ {os cs work : List ℕ} {j : ℕ} (s : Sound os cs) (A : Agenda (siteOf
   top-is-first : First (siteOf os cs) (countIn (firstEvents (siteOf os cs) j)) 0 (length (siteOf os cs)) word
   top-is-first =
       let T = top-tree s in
-      rw (is, top-same s, node-at s A (topOf (length (siteOf os cs))) (omega arith) (omega (arith, T .high))) (top-first (siteOf os cs) (countIn (firstEvents (siteOf os cs) j)) T)
+      rw (is, top-same s, node-at s A (topNode (length (siteOf os cs))) (omega arith) (omega (arith, T .high))) (top-first (siteOf os cs) (countIn (firstEvents (siteOf os cs) j)) T)
 
   -- nothing is left
   pub found-over : word ≡ 0 → Over ≡ nextIs (getElem? (eventsOf inUse (siteOf os cs)) j)

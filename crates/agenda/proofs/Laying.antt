@@ -15,7 +15,7 @@ use Rattle.tables.proofs.Sound.{contexts-are, context-size}
 use Rattle.words.specs.Words.{Holds}
 use Rattle.words.proofs.Words.{padded-at, padded-none}
 use Rattle.words.proofs.Split.{by-eq, by-le}
-use Rattle.agenda.specs.Agenda.{summed, summedTo, Laid}
+use Rattle.agenda.specs.Agenda.{summed, summedTo, LaidOut}
 use Rattle.agenda.specs.Layout.{agendaRoom}
 use Rattle.agenda.specs.Tournament.{leftOf, leftIn, leafWord, ownWord}
 use Rattle.agenda.proofs.Nodes.{leaf-is}
@@ -152,7 +152,7 @@ module _ {os cs old now : List ℕ} {i : ℕ} (w : Laying os cs old now i) where
   unfolding leftOf
   left-beyond k h = let e = beyond (siteOf os cs) k h in left-eq (omega (arith, e)) (sym e)
 
-  pub laying-end : length os ≤ i + 1 → Laid (siteOf os cs) cs now
+  pub laying-end : length os ≤ i + 1 → LaidOut (siteOf os cs) cs now
   laying-end h = record {
     ranked = record {
       room = w .room;

@@ -21,7 +21,7 @@ use Rattle.words.proofs.Split.{by-eq}
 use Rattle.agenda.specs.Agenda.{firstEvents, postedOf, countIn, tails, agendaWords, Agenda}
 use Rattle.agenda.specs.Next.{eventIs}
 use Rattle.agenda.specs.Postings.{codesBelow, mark}
-use Rattle.agenda.specs.Tournament.{leftOf, leftIn, topOf, Ranked, Moved}
+use Rattle.agenda.specs.Tournament.{leftOf, leftIn, topNode, NodesPlayed, Moved}
 use Rattle.agenda.proofs.Counting.{below-few}
 use Rattle.agenda.proofs.Counts.{eventAt, count-add, one-more, next-place}
 use Rattle.agenda.proofs.Buckets.{posting-few}
@@ -69,7 +69,7 @@ module _ {os cs work : List ℕ} {j : ℕ} {c : Context} {p : Place} (s : Sound 
   noted-inside = omega (arith, place-is, tail-room, mark-inside (siteOf os cs) j (w .more) small)
 
   -- the nodes are as they were
-  pub noted-ranked : Ranked (topOf (length os - 1) - 1) (set work (5123 + start + n) (c .0 + 1))
+  pub noted-ranked : NodesPlayed (topNode (length os - 1) - 1) (set work (5123 + start + n) (c .0 + 1))
   noted-ranked = ranked-behind (all-ranked s A) (5123 + start + n) (c .0 + 1) (omega arith)
 
   -- and so is what is left
@@ -106,8 +106,8 @@ module _ {os cs work : List ℕ} {j : ℕ} {c : Context} {p : Place} (s : Sound 
   pub noted-left : 0 < getD (set work (5123 + start + n) (c .0 + 1)) (c .0 + 1) 0
   noted-left = omega (arith, kept (c .0 + 1) (omega (arith, context-few)), left-before, place-next, w .occurs .to-size)
 
-  module _ {now : List ℕ} (M : Moved (topOf (length os - 1)) (c .0 + 1) (set work (5123 + start + n) (c .0 + 1)) now) (long : length now ≡ length work) where
-    stays : (i : ℕ) → i < 514 + topOf (length (siteOf os cs)) → (i ≡ c .0 + 1 → ⊥) → getD now i 0 ≡ getD work i 0
+  module _ {now : List ℕ} (M : Moved (topNode (length os - 1)) (c .0 + 1) (set work (5123 + start + n) (c .0 + 1)) now) (long : length now ≡ length work) where
+    stays : (i : ℕ) → i < 514 + topNode (length (siteOf os cs)) → (i ≡ c .0 + 1 → ⊥) → getD now i 0 ≡ getD work i 0
     stays i h d = M .other i (omega (arith, h, top-same s)) d ∙ kept i (omega (arith, h, top-tree s .high))
 
     left-here : leftIn now (suc (c .0)) ≡ leftOf (siteOf os cs) (countIn (firstEvents (siteOf os cs) (suc j))) (suc (c .0))
@@ -152,7 +152,7 @@ module _ {os cs work : List ℕ} {j : ℕ} {c : Context} {p : Place} (s : Sound 
         let room : 1026 + length (tails site next) ≤ length now = omega (arith, tails-length site next (posting-few site (suc j)), below-few (allCodes site) 4096, ap length (all-codes s), s .short, A .room, long) in
         let T = top-tree s in
         rw (add-one j) (record {
-          holds = known (topOf (length site)) f (tails site next) now lefts-are
+          holds = known (topNode (length site)) f (tails site next) now lefts-are
               (λ t z. stays (514 + t) (omega arith) (λ e. omega (arith, e, context-few)) ∙ none-at s A t z (omega (arith, z, T .high)))
               (λ t z h. M .ranked .nodes t (omega (arith, z, top-same s, T .low)) h ∙ node-same (leftIn now) f lefts-are t (omega (arith, z, T .low)) h)
               room tails-are;

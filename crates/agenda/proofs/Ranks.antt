@@ -7,7 +7,7 @@ use lib.ListN.{length, getD, set, length-set}
 use lib.Seq.{getD-set-same, getD-set-other}
 use Rattle.walk.specs.declared.Fraction.{Fraction}
 use Rattle.words.proofs.Split.{by-eq, by-le}
-use Rattle.agenda.specs.Tournament.{leftIn, nodeWord, Ranked}
+use Rattle.agenda.specs.Tournament.{leftIn, nodeWord, NodesPlayed}
 use Rattle.agenda.proofs.Nodes.{node-small}
 use Rattle.agenda.proofs.Paths.{node-same}
 
@@ -22,11 +22,11 @@ left-kept work k v h w l = left-eq (getD-set-other work k w v 0 (λ e. omega ari
 
 -- ---- a node
 
-pub node-inside : {y : ℕ} {work : List ℕ} → Ranked y work → (t : ℕ) → y < t → t < 512 → getD work (514 + t) 0 ≤ 256
+pub node-inside : {y : ℕ} {work : List ℕ} → NodesPlayed y work → (t : ℕ) → y < t → t < 512 → getD work (514 + t) 0 ≤ 256
 node-inside {y} {work} R t h l = rw (R .nodes t h l) (node-small (leftIn work) t (omega arith) l)
 
 -- and so have those behind another
-pub ranked-from : {y : ℕ} {work : List ℕ} → Ranked y work → {z : ℕ} → y ≤ z → Ranked z work
+pub ranked-from : {y : ℕ} {work : List ℕ} → NodesPlayed y work → {z : ℕ} → y ≤ z → NodesPlayed z work
 ranked-from R h = record { room = R .room; nodes = λ t a b. R .nodes t (omega arith) b }
 
 -- ---- a store
@@ -51,7 +51,7 @@ framed-set {top} {old} {now} F t v h l = record {
 }
 
 -- node t gets its word, where those behind it have theirs, and those from y on up to it
-pub ranked-set : {t : ℕ} {work : List ℕ} → Ranked t work → 0 < t → t < 512 → {v : ℕ} → v ≡ nodeWord (leftIn work) t → (y : ℕ) → ((u : ℕ) → y < u → u < t → getD work (514 + u) 0 ≡ nodeWord (leftIn work) u) → Ranked y (set work (514 + t) v)
+pub ranked-set : {t : ℕ} {work : List ℕ} → NodesPlayed t work → 0 < t → t < 512 → {v : ℕ} → v ≡ nodeWord (leftIn work) t → (y : ℕ) → ((u : ℕ) → y < u → u < t → getD work (514 + u) 0 ≡ nodeWord (leftIn work) u) → NodesPlayed y (set work (514 + t) v)
 ranked-set {t} {work} R h l {v} e y between = record {
   room = omega (arith, R .room, length-set work (514 + t) v);
   nodes = λ u a b. by-eq u t
@@ -63,7 +63,7 @@ ranked-set {t} {work} R h l {v} e y between = record {
     same u z b = node-same (leftIn (set work (514 + t) v)) (leftIn work) (λ w k. left-kept work (514 + t) v (omega arith) w k) u z b
 
 -- what is behind the nodes has no say
-pub ranked-behind : {y : ℕ} {work : List ℕ} → Ranked y work → (i v : ℕ) → 1026 ≤ i → Ranked y (set work i v)
+pub ranked-behind : {y : ℕ} {work : List ℕ} → NodesPlayed y work → (i v : ℕ) → 1026 ≤ i → NodesPlayed y (set work i v)
 ranked-behind {y} {work} R i v h = record {
   room = omega (arith, R .room, length-set work i v);
   nodes = λ t a b. getD-set-other work i (514 + t) v 0 (λ z. omega arith) ∙ R .nodes t a b ∙ sym (node-same (leftIn (set work i v)) (leftIn work) (λ w k. left-kept work i v (omega arith) w k) t (omega arith) b);

@@ -15,7 +15,7 @@ use Rattle.tables.proofs.Sound.{contexts-are, place-small}
 use Rattle.tables.proofs.Cuts.{all-codes}
 use Rattle.words.specs.Words.{Holds}
 use Rattle.agenda.specs.Agenda.{firstEvents, postedOf, countIn, heads, tails, agendaWords, Agenda}
-use Rattle.agenda.specs.Tournament.{leftOf, leftIn, nodeWord, topOf}
+use Rattle.agenda.specs.Tournament.{leftOf, leftIn, nodeWord, topNode}
 use Rattle.agenda.specs.Postings.{often, codesBelow, mark}
 use Rattle.agenda.proofs.Counting.{below-few, below-suc}
 use Rattle.agenda.proofs.Buckets.{posting-few}
@@ -36,10 +36,10 @@ module _ {os cs : List ℕ} (s : Sound os cs) where
   event-code e o = place-small s (e .context) (pred (e .place)) (omega (arith, contexts-are s, o .inside)) (omega (arith, o .from-one, o .to-size))
 
   -- the subtree in which the contexts of the tables play
-  pub top-same : topOf (length os - 1) ≡ topOf (length (siteOf os cs))
-  top-same = let e : length os - 1 ≡ length (siteOf os cs) = omega (arith, contexts-are s) in ap topOf e
+  pub top-same : topNode (length os - 1) ≡ topNode (length (siteOf os cs))
+  top-same = let e : length os - 1 ≡ length (siteOf os cs) = omega (arith, contexts-are s) in ap topNode e
 
-  pub top-tree : Subtree (length (siteOf os cs)) (topOf (length (siteOf os cs)))
+  pub top-tree : Subtree (length (siteOf os cs)) (topNode (length (siteOf os cs)))
   top-tree = subtree (length (siteOf os cs)) (omega (arith, contexts-are s, s .few))
 
   -- no code has more events than places
@@ -51,7 +51,7 @@ module _ {os cs : List ℕ} (s : Sound os cs) {j : ℕ} {work : List ℕ} (A : A
   done-length = length-take-le j (eventsOf inUse (siteOf os cs)) (A .within)
 
   -- the words in front, and those behind them
-  pub held : Holds work (heads (topOf (length (siteOf os cs))) (leftOf (siteOf os cs) (countIn (firstEvents (siteOf os cs) j))) ++ tails (siteOf os cs) (firstEvents (siteOf os cs) j))
+  pub held : Holds work (heads (topNode (length (siteOf os cs))) (leftOf (siteOf os cs) (countIn (firstEvents (siteOf os cs) j))) ++ tails (siteOf os cs) (firstEvents (siteOf os cs) j))
   unfolding agendaWords
   held = A .holds
 
@@ -59,10 +59,10 @@ module _ {os cs : List ℕ} (s : Sound os cs) {j : ℕ} {work : List ℕ} (A : A
   pub left-at : (w : ℕ) → w ≤ 256 → leftIn work w ≡ leftOf (siteOf os cs) (countIn (firstEvents (siteOf os cs) j)) w
   left-at w h = left-read _ _ _ held w h
 
-  pub none-at : (t : ℕ) → t < topOf (length (siteOf os cs)) → t < 512 → getD work (514 + t) 0 ≡ 0
+  pub none-at : (t : ℕ) → t < topNode (length (siteOf os cs)) → t < 512 → getD work (514 + t) 0 ≡ 0
   none-at t z h = none-read _ _ _ held t z h
 
-  pub node-at : (t : ℕ) → topOf (length (siteOf os cs)) ≤ t → t < 512 → getD work (514 + t) 0 ≡ nodeWord (leftOf (siteOf os cs) (countIn (firstEvents (siteOf os cs) j))) t
+  pub node-at : (t : ℕ) → topNode (length (siteOf os cs)) ≤ t → t < 512 → getD work (514 + t) 0 ≡ nodeWord (leftOf (siteOf os cs) (countIn (firstEvents (siteOf os cs) j))) t
   node-at t z h = node-read _ _ _ held t z h
 
   -- where the bucket of code x starts

@@ -4,26 +4,26 @@ use Prim.Native.Nat.{ℕ, zero, suc, _+_, _*_, _/_, _≤_, _<_}
 use native.Mathlib.Omega.{arith}
 use borrow.Author.Tests.{le-leb, lt-leb}
 use Rattle.words.proofs.Split.{by-le}
-use Rattle.agenda.specs.Tournament.{topOf}
+use Rattle.agenda.specs.Tournament.{topNode}
 use Rattle.agenda.proofs.Nodes.{doubled, doubled-least}
 
 -- ---- the top of n contexts
 
 module _ (n : ℕ) where
-  pub top-8 : n ≤ 32 → 8 ≡ topOf n
-  unfolding topOf
+  pub top-8 : n ≤ 32 → 8 ≡ topNode n
+  unfolding topNode
   top-8 a = rw (le-leb n 32 a)
 
-  pub top-4 : 32 < n → n ≤ 64 → 4 ≡ topOf n
-  unfolding topOf
+  pub top-4 : 32 < n → n ≤ 64 → 4 ≡ topNode n
+  unfolding topNode
   top-4 a b = rw (lt-leb n 32 a, le-leb n 64 b)
 
-  pub top-2 : 64 < n → n ≤ 128 → 2 ≡ topOf n
-  unfolding topOf
+  pub top-2 : 64 < n → n ≤ 128 → 2 ≡ topNode n
+  unfolding topNode
   top-2 a b = rw (lt-leb n 32 (omega arith), lt-leb n 64 a, le-leb n 128 b)
 
-  pub top-1 : 128 < n → 1 ≡ topOf n
-  unfolding topOf
+  pub top-1 : 128 < n → 1 ≡ topNode n
+  unfolding topNode
   top-1 a = rw (lt-leb n 32 (omega arith), lt-leb n 64 (omega arith), lt-leb n 128 a)
 
 -- ---- all contexts are under it
@@ -37,7 +37,7 @@ pub record Subtree (n top : ℕ) : Type 0 where
   pub low : 0 < top
   pub high : top ≤ 8
 
-pub subtree : (n : ℕ) → n ≤ 256 → Subtree n (topOf n)
+pub subtree : (n : ℕ) → n ≤ 256 → Subtree n (topNode n)
 unfolding doubled
 subtree n h = by-le n 32
     (λ a. rw (← top-8 n a) (record { levels = 5; starts = refl; reaches = omega arith; ends = omega arith; low = omega arith; high = omega arith }))

@@ -15,7 +15,7 @@ use Rattle.site.proofs.Rows.{row-length, row-at}
 use Rattle.agenda.proofs.Rows.{set-append-add}
 use Rattle.agenda.proofs.Counting.{below-suc, below-rises}
 use Rattle.agenda.proofs.Counts.{eventAt, one-more}
-use Rattle.agenda.proofs.Buckets.{Fits, posting-few, posting-room, span-is, bucket-at, buckets-next}
+use Rattle.agenda.proofs.Buckets.{PostingsFit, posting-few, posting-room, span-is, bucket-at, buckets-next}
 
 module _ (site : Site) where
   pub starts-length : length (starts (allCodes site)) ≡ 4097
@@ -23,7 +23,7 @@ module _ (site : Site) where
   starts-length = row-length (codesBelow (allCodes site)) 4097
 
   module _ (done : List Event) where
-    pub tails-length : Fits site done → length (tails site done) ≡ 4097 + codesBelow (allCodes site) 4096
+    pub tails-length : PostingsFit site done → length (tails site done) ≡ 4097 + codesBelow (allCodes site) 4096
     unfolding tails buckets
     tails-length fits = omega (arith, length-append (starts (allCodes site)) (buckets site done), starts-length, span-is site done fits 4096)
 
@@ -31,14 +31,14 @@ module _ (site : Site) where
     unfolding tails starts
     start-word x h = List·getD-append (starts (allCodes site)) (buckets site done) 0 x (omega (arith, starts-length)) ∙ row-at (codesBelow (allCodes site)) 4097 x h
 
-    pub mark-word : Fits site done → (x n : ℕ) → x < 4096 → n < often (allCodes site) x → getD (tails site done) (4097 + (codesBelow (allCodes site) x + n)) 0 ≡ getD (map mark (postingOf site done x)) n 0
+    pub mark-word : PostingsFit site done → (x n : ℕ) → x < 4096 → n < often (allCodes site) x → getD (tails site done) (4097 + (codesBelow (allCodes site) x + n)) 0 ≡ getD (map mark (postingOf site done x)) n 0
     unfolding tails
     mark-word fits x n h k = rw (← starts-length) (getD-append-add (starts (allCodes site)) (buckets site done) (codesBelow (allCodes site) x + n) 0 ∙ bucket-at site done fits x n h k)
 
   -- ---- one event more
 
   module _ (j : ℕ) (h : j < length (eventsOf inUse site)) where
-    fits-next : Fits site (firstEvents site j ++ eventAt site j ∷ [])
+    fits-next : PostingsFit site (firstEvents site j ++ eventAt site j ∷ [])
     fits-next = λ x. rw (← one-more site j h) (posting-few site (suc j) x)
 
     -- there is a word for it

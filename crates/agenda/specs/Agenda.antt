@@ -14,7 +14,7 @@ use Rattle.site.specs.Tables.{allCodes}
 use Rattle.words.specs.Words.{Holds}
 use Rattle.walk.specs.declared.Fraction.{Fraction}
 use Rattle.agenda.specs.Layout.{agendaRoom}
-use Rattle.agenda.specs.Tournament.{leftOf, leftIn, nodeWord, topOf, Ranked}
+use Rattle.agenda.specs.Tournament.{leftOf, leftIn, nodeWord, topNode, NodesPlayed}
 use Rattle.agenda.specs.Postings.{often, codesBelow, starts, buckets}
 
 -- the first j events
@@ -43,7 +43,7 @@ tails site done = starts (allCodes site) ++ buckets site done
 
 -- what is left of the contexts and the nodes, the starts and the buckets
 unfoldable pub agendaWords : Site → List Event → List ℕ
-agendaWords site done = heads (topOf (length site)) (leftOf site (countIn done)) ++ tails site done
+agendaWords site done = heads (topNode (length site)) (leftOf site (countIn done)) ++ tails site done
 
 -- the work area after j events
 pub record Agenda (site : Site) (j : ℕ) (work : List ℕ) : Type 0 where
@@ -62,8 +62,8 @@ unfoldable pub summedTo : ℕ → List ℕ → List ℕ
 summedTo y codes = replicate 1026 0 ++ map (summed y codes) (upTo 4097)
 
 -- no context has come anywhere, and no node but the leaves has its word
-pub record Laid (site : Site) (codes work : List ℕ) : Type 0 where
-  pub ranked : Ranked 255 work
+pub record LaidOut (site : Site) (codes work : List ℕ) : Type 0 where
+  pub ranked : NodesPlayed 255 work
   pub lefts : (w : ℕ) → w ≤ 256 → leftIn work w ≡ leftOf site (λ i. 0) w
   pub none : (t : ℕ) → t < 256 → getD work (514 + t) 0 ≡ 0
   pub behind : (i : ℕ) → getD work (1026 + i) 0 ≡ getD (map (summed 4096 codes) (upTo 4097)) i 0

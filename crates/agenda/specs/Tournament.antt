@@ -64,19 +64,19 @@ aheadBy margin a b = cond (ltb (a .left .num * b .left .den) (b .left .num * a .
 -- ---- few contexts
 
 -- the top of the subtree in which n contexts play: node 8 has 32 leaves under it, node 4 has 64 and node 2 has 128
-unfoldable pub topOf : ℕ → ℕ
-topOf n = cond (leb n 32) 8 (cond (leb n 64) 4 (cond (leb n 128) 2 1))
+unfoldable pub topNode : ℕ → ℕ
+topNode n = cond (leb n 32) 8 (cond (leb n 64) 4 (cond (leb n 128) 2 1))
 
 -- ---- in the work area
 
 -- the nodes behind y have their words
-pub record Ranked (y : ℕ) (work : List ℕ) : Type 0 where
+pub record NodesPlayed (y : ℕ) (work : List ℕ) : Type 0 where
   pub room : agendaRoom ≤ length work
   pub nodes : (t : ℕ) → y < t → t < 512 → getD work (514 + t) 0 ≡ nodeWord (leftIn work) t
 
 -- the context of word w has come one place further: the nodes from the top on have their words, and else there is what stood there
 pub record Moved (top w : ℕ) (old now : List ℕ) : Type 0 where
-  pub ranked : Ranked (top - 1) now
+  pub ranked : NodesPlayed (top - 1) now
   pub here : getD now w 0 ≡ getD old w 0 - 1
   pub other : (i : ℕ) → i < 514 + top → (i ≡ w → ⊥) → getD now i 0 ≡ getD old i 0
   pub behind : (i : ℕ) → 1026 ≤ i → getD now i 0 ≡ getD old i 0

@@ -8,13 +8,13 @@ ghost use Prim.Native.Nat.{_+_, _-_, _/_, _≤_, _<_};
 ghost use lib.ListN.{length, getD, getElem?, set, replicate};
 ghost use Rattle.site.specs.Measure.{inUse};
 ghost use Rattle.site.specs.Events.{Occurs, codeAt, eventsOf};
-ghost use Rattle.site.specs.Tables.{siteOf};
+ghost use Rattle.site.specs.Tables.{siteAt, siteIn};
 ghost use Rattle.words.specs.Words.{Holds};
 ghost use Rattle.tables.specs.Sound.{Sound};
 ghost use Rattle.agenda.specs.Layout.{agendaRoom};
-ghost use Rattle.agenda.specs.Agenda.{postedOf, Agenda, summedTo, Laid};
+ghost use Rattle.agenda.specs.Agenda.{postedOf, Agenda, summedTo, LaidOut};
 ghost use Rattle.agenda.specs.Postings.{postedIs, codesBelow};
-ghost use Rattle.agenda.specs.Tournament.{leftIn, leafWord, contenderOf, aheadBy, nodeWord, contenderAt, topOf, Ranked, Moved};
+ghost use Rattle.agenda.specs.Tournament.{leftIn, leafWord, contenderOf, aheadBy, nodeWord, contenderAt, topNode, NodesPlayed, Moved};
 ghost use Rattle.agenda.specs.Next.{nextIs, eventIs};
 use site::Context;
 use site::Place;
@@ -63,7 +63,7 @@ struct Contender {
 
 // The top of the subtree in which so many contexts play: all their leaves are below it.
 fn top(contexts: usize) -> usize
-    ensures { λ r. ⌜ r ≡ topOf contexts ⌝ }
+    ensures { λ r. ⌜ r ≡ topNode contexts ⌝ }
 {
     if contexts <= 32 {
         return 8;
@@ -116,7 +116,7 @@ fn ahead(a: Contender, b: Contender, margin: u32) -> Contender
 
 // The word of node t, from those of the two nodes below it.
 fn play(work: &[u16], t: usize) -> u16
-    requires { ⌜ Ranked t (now work) ⌝ }
+    requires { ⌜ NodesPlayed t (now work) ⌝ }
     requires { ⌜ (0 < t) × (t < 256) ⌝ }
     ensures { λ r. ⌜ r ≡ nodeWord (leftIn (now (work .entry))) t ⌝ }
 {
@@ -128,7 +128,7 @@ fn play(work: &[u16], t: usize) -> u16
 
 // The node above t, from node t and the node beside it.
 fn play_on(work: &[u16], t: usize, best: Contender) -> Contender
-    requires { ⌜ Ranked (t / 2) (now work) ⌝ }
+    requires { ⌜ NodesPlayed (t / 2) (now work) ⌝ }
     requires { ⌜ (1 < t) × (t < 512) ⌝ }
     requires { ⌜ best ≡ contenderAt (leftIn (now work)) t ⌝ }
     ensures { λ r. ⌜ r ≡ contenderAt (leftIn (now (work .entry))) (t / 2) ⌝ }
@@ -141,8 +141,8 @@ fn play_on(work: &[u16], t: usize, best: Contender) -> Contender
 // The next event after the first `events`.
 pub fn next_event(offsets: &[u16], codes: &[u16], work: &[u16], events: usize) -> Next
     requires { ⌜ Sound (now offsets) (now codes) ⌝ }
-    requires { ⌜ Agenda (siteOf (now offsets) (now codes)) events (now work) ⌝ }
-    ensures { λ r. ⌜ r ≡ nextIs (getElem? (eventsOf inUse (siteOf (now (offsets .entry)) (now (codes .entry)))) events) ⌝ }
+    requires { ⌜ Agenda (siteIn offsets codes) events (now work) ⌝ }
+    ensures { λ r. ⌜ r ≡ nextIs (getElem? (eventsOf inUse (siteAt offsets codes)) events) ⌝ }
 {
     let top = top(offsets.len() - 1);
     let word = work[NODES + top];
@@ -164,9 +164,9 @@ pub fn posted_at(
     n: usize,
 ) -> Posted
     requires { ⌜ Sound (now offsets) (now codes) ⌝ }
-    requires { ⌜ Agenda (siteOf (now offsets) (now codes)) events (now work) ⌝ }
+    requires { ⌜ Agenda (siteIn offsets codes) events (now work) ⌝ }
     requires { ⌜ code < 4096 ⌝ }
-    ensures { λ r. ⌜ r ≡ postedIs (getElem? (postedOf (siteOf (now (offsets .entry)) (now (codes .entry))) events code) n) ⌝ }
+    ensures { λ r. ⌜ r ≡ postedIs (getElem? (postedOf (siteAt offsets codes) events code) n) ⌝ }
 {
     let x = code as usize;
     let start = work[STARTS + x] as usize;
@@ -191,9 +191,9 @@ fn bucket_start(
     p: Place,
 ) -> usize
     requires { ⌜ Sound (now offsets) (now codes) ⌝ }
-    requires { ⌜ Agenda (siteOf (now offsets) (now codes)) events (now work) ⌝ }
-    requires { ⌜ Occurs (siteOf (now offsets) (now codes)) (eventIs c p) ⌝ }
-    ensures { λ r. ⌜ r ≡ codesBelow (now (codes .entry)) (codeAt (siteOf (now (offsets .entry)) (now (codes .entry))) (eventIs c p)) ⌝ }
+    requires { ⌜ Agenda (siteIn offsets codes) events (now work) ⌝ }
+    requires { ⌜ Occurs (siteIn offsets codes) (eventIs c p) ⌝ }
+    ensures { λ r. ⌜ r ≡ codesBelow (now (codes .entry)) (codeAt (siteAt offsets codes) (eventIs c p)) ⌝ }
 {
     let part = context(offsets, codes, c);
     let place = p.0 as usize;
@@ -203,10 +203,10 @@ fn bucket_start(
 
 // One of so many contexts comes one place further: what is left of it, and the nodes from its leaf up to the top.
 fn move_on(work: &mut [u16], contexts: usize, c: Context)
-    requires { ⌜ Ranked (topOf contexts - 1) (now work) ⌝ }
+    requires { ⌜ NodesPlayed (topNode contexts - 1) (now work) ⌝ }
     requires { ⌜ (c .0 < contexts) × (contexts ≤ 256) ⌝ }
     requires { ⌜ 0 < getD (now work) (c .0 + 1) 0 ⌝ }
-    ensures { λ _. ⌜ Moved (topOf contexts) (c .0 + 1) (now (work .entry)) (now (work .exit)) ⌝ }
+    ensures { λ _. ⌜ Moved (topNode contexts) (c .0 + 1) (now (work .entry)) (now (work .exit)) ⌝ }
 {
     let top = top(contexts);
     let word = c.0 + 1;
@@ -235,10 +235,10 @@ pub fn note_event(
     n: usize,
 )
     requires { ⌜ Sound (now offsets) (now codes) ⌝ }
-    requires { ⌜ Agenda (siteOf (now offsets) (now codes)) events (now work) ⌝ }
-    requires { ⌜ nextIs (getElem? (eventsOf inUse (siteOf (now offsets) (now codes))) events) ≡ Next.At c p ⌝ }
-    requires { ⌜ n ≡ length (postedOf (siteOf (now offsets) (now codes)) events (codeAt (siteOf (now offsets) (now codes)) (eventIs c p))) ⌝ }
-    ensures { λ _. ⌜ Agenda (siteOf (now (offsets .entry)) (now (codes .entry))) (events + 1) (now (work .exit)) ⌝ }
+    requires { ⌜ Agenda (siteIn offsets codes) events (now work) ⌝ }
+    requires { ⌜ nextIs (getElem? (eventsOf inUse (siteIn offsets codes)) events) ≡ Next.At c p ⌝ }
+    requires { ⌜ n ≡ length (postedOf (siteIn offsets codes) events (codeAt (siteIn offsets codes) (eventIs c p))) ⌝ }
+    ensures { λ _. ⌜ Agenda (siteAt offsets codes) (events + 1) (now (work .exit)) ⌝ }
     ensures { λ _. ⌜ length (now (work .exit)) ≡ length (now (work .entry)) ⌝ }
 {
     let start = bucket_start(offsets, codes, work, events, c, p);
@@ -291,7 +291,7 @@ fn lay_context(work: &mut [u16], word: u16, size: u16)
 fn lay_contexts(offsets: &[u16], codes: &[u16], work: &mut [u16])
     requires { ⌜ Sound (now offsets) (now codes) ⌝ }
     requires { ⌜ (agendaRoom ≤ length (now work)) × Holds (now work) (summedTo 4096 (now codes)) ⌝ }
-    ensures { λ _. ⌜ Laid (siteOf (now (offsets .entry)) (now (codes .entry))) (now (codes .entry)) (now (work .exit)) ⌝ }
+    ensures { λ _. ⌜ LaidOut (siteAt offsets codes) (now (codes .entry)) (now (work .exit)) ⌝ }
 {
     work[SIZES] = 1;
     let mut i: usize = 0;
@@ -305,8 +305,8 @@ fn lay_contexts(offsets: &[u16], codes: &[u16], work: &mut [u16])
 // Finds the word of every node above the leaves, from the last to the top, with no event done.
 fn build_nodes(offsets: &[u16], codes: &[u16], work: &mut [u16])
     requires { ⌜ Sound (now offsets) (now codes) ⌝ }
-    requires { ⌜ Laid (siteOf (now offsets) (now codes)) (now codes) (now work) ⌝ }
-    ensures { λ _. ⌜ Agenda (siteOf (now (offsets .entry)) (now (codes .entry))) 0 (now (work .exit)) ⌝ }
+    requires { ⌜ LaidOut (siteIn offsets codes) (now codes) (now work) ⌝ }
+    ensures { λ _. ⌜ Agenda (siteAt offsets codes) 0 (now (work .exit)) ⌝ }
 {
     let top = top(offsets.len() - 1);
     let mut u: usize = 255;
@@ -321,7 +321,7 @@ fn build_nodes(offsets: &[u16], codes: &[u16], work: &mut [u16])
 pub fn prepare(offsets: &[u16], codes: &[u16], work: &mut [u16])
     requires { ⌜ Sound (now offsets) (now codes) ⌝ }
     requires { ⌜ agendaRoom ≤ length (now work) ⌝ }
-    ensures { λ _. ⌜ Agenda (siteOf (now (offsets .entry)) (now (codes .entry))) 0 (now (work .exit)) ⌝ }
+    ensures { λ _. ⌜ Agenda (siteAt offsets codes) 0 (now (work .exit)) ⌝ }
     ensures { λ _. ⌜ length (now (work .exit)) ≡ length (now (work .entry)) ⌝ }
 {
     zero_words(work, 0);

@@ -16,7 +16,7 @@ use Rattle.site.proofs.Contexts.{first-bound, shared-le}
 use Rattle.walk.specs.declared.Fraction.{Fraction}
 use Rattle.walk.specs.Fractions.{ratioOf, lower}
 use Rattle.walk.proofs.Fractions.{lower-below}
-use Rattle.entries.specs.Entries.{entryOf, pairOf, similarityOf, moreAlike, entryBefore}
+use Rattle.entries.specs.Entries.{entryOf, entryPair, similarityOf, moreAlike, entryBefore}
 use Rattle.entries.specs.declared.Entry.{Entry}
 
 -- ---- what `rank_before` tells
@@ -39,7 +39,7 @@ module _ (e f : Entry) {s t : Fraction} (p : s ≡ similarityOf e) (q : t ≡ si
     unfolding entryBefore
     rank-after w = sym (then-after _ _ e f (sym more ∙ z) (sym less ∙ w))
 
-    pub rank-tied : {n : Bool} → u ≡ false → n ≡ numbersBefore (pairOf e) (pairOf f) → n ≡ entryBefore e f
+    pub rank-tied : {n : Bool} → u ≡ false → n ≡ numbersBefore (entryPair e) (entryPair f) → n ≡ entryBefore e f
     unfolding entryBefore
     rank-tied w o = o ∙ sym (then-tied _ _ e f (sym more ∙ z) (sym less ∙ w))
 
@@ -47,13 +47,13 @@ module _ (e f : Entry) {s t : Fraction} (p : s ≡ similarityOf e) (q : t ≡ si
 
 -- by their ratios: no ratio is 0/0, so this order ranks all entries
 abbrev ratioBefore : Entry → Entry → Bool
-ratioBefore = by (λ e. ratioOf (similarityOf e)) above thenBy by pairOf numbersBefore
+ratioBefore = by (λ e. ratioOf (similarityOf e)) above thenBy by entryPair numbersBefore
 
 ratio-ranks : Ranks ratioBefore
 unfolding numbersBefore
 ratio-ranks =
     then-ranks _ _ (by-ranks (λ e. ratioOf (similarityOf e)) above-ranks)
-    (by-ranks pairOf (then-ranks _ _ (by-ranks (λ p. p .lower) (ltb-orders .ranks)) (by-ranks (λ p. p .higher) (ltb-orders .ranks))))
+    (by-ranks entryPair (then-ranks _ _ (by-ranks (λ p. p .lower) (ltb-orders .ranks)) (by-ranks (λ p. p .higher) (ltb-orders .ranks))))
 
 ratio-agrees : (e f : Entry) → 0 < e .union → 0 < f .union → entryBefore e f ≡ ratioBefore e f
 unfolding entryBefore moreAlike
@@ -84,4 +84,4 @@ module _ {site : Site} (R : Rising site) where
 
   pub same-order : (p q : Pair) → Shares site p → Shares site q → entryBefore (entryOf site p) (entryOf site q) ≡ rankBefore inUse site p q
   unfolding entryBefore
-  same-order p q s t = rank-agrees inUse site moreAlike (by pairOf numbersBefore) (entryOf site p) (entryOf site q) p q (alike p q s t) (alike q p t s) refl
+  same-order p q s t = rank-agrees inUse site moreAlike (by entryPair numbersBefore) (entryOf site p) (entryOf site q) p q (alike p q s t) (alike q p t s) refl

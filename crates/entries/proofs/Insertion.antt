@@ -94,21 +94,21 @@ inserts ws e n k {out} few room o es q h =
 -- ---- the ways out of `insert`
 
 -- what it tells of its answer r and of the list that it leaves
-abbrev pub Told : ℕ → Entry → ℕ → List ℕ → ℕ → List ℕ → Type 0
-Told k e n ws r out = (r ≡ min k (n + 1)) × ((out ≡ insertedWords k e n ws) × (Inserts k e n ws out × Ordered out r))
+abbrev pub InsertTold : ℕ → Entry → ℕ → List ℕ → ℕ → List ℕ → Type 0
+InsertTold k e n ws r out = (r ≡ min k (n + 1)) × ((out ≡ insertedWords k e n ws) × (Inserts k e n ws out × Ordered out r))
 
 module _ (ws : List ℕ) (e : Entry) (n k p : ℕ) (few : n ≤ k) (room : width * k ≤ length ws) (order : Ordered ws n × (0 < e .union)) (rank : p ≡ rankOf entryBefore e (entries n ws)) where
-  told : (r : ℕ) {out : List ℕ} → r ≡ min k (n + 1) → out ≡ insertedWords k e n ws → Told k e n ws r out
+  told : (r : ℕ) {out : List ℕ} → r ≡ min k (n + 1) → out ≡ insertedWords k e n ws → InsertTold k e n ws r out
   told r c o = (c, (o, (inserts ws e n k few room o, inserted-ordered ws e n k r (order .0) (order .1) c o)))
 
   -- e comes behind the k-th
-  pub none-listed : k ≤ p → Told k e n ws k ws
+  pub none-listed : k ≤ p → InsertTold k e n ws k ws
   none-listed h = told k (omega (arith, rank-within ws e n k p few room rank)) (none-words ws e n k p few room rank h)
 
   -- sh is what `shift` leaves, and out what `put_entry` leaves of that
   pub one-listed : p < k → {keep : ℕ} → keep ≡ min n (k - 1) → {sh out : List ℕ}
       → sh ≡ take (width * p + width) ws ++ take (width * keep - width * p) (drop (width * p) ws) ++ drop (width * keep + width) ws
-      → out ≡ take (width * p) sh ++ words e ++ drop (width * p + width) sh → Told k e n ws (keep + 1) out
+      → out ≡ take (width * p) sh ++ words e ++ drop (width * p + width) sh → InsertTold k e n ws (keep + 1) out
   one-listed h {keep} q s o =
       let w = rank-within ws e n k p few room rank in
       told (keep + 1) (omega arith) (o ∙ rw s (put-shifted ws (words e) (width * p) (width * keep) (omega arith) (omega arith)) ∙ one-words ws e n k p few room rank h keep q)

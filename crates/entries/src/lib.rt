@@ -7,7 +7,7 @@ ghost use lib.ListN.{length, take, drop};
 ghost use Rattle.order.specs.Order.{kth};
 ghost use Rattle.site.specs.Site.{numbersBefore};
 ghost use Rattle.order.specs.Order.{rankOf};
-ghost use Rattle.entries.specs.Entries.{width, words, pairOf, entryAt, entries, similarityOf, entryBefore, Ordered, insertedWords, Inserts, belowEntry};
+ghost use Rattle.entries.specs.Entries.{width, words, entryPair, entryAt, entries, similarityOf, entryBefore, Ordered, insertedWords, Inserts, belowEntry};
 use site::Context;
 use walk::Fraction;
 use walk::below;
@@ -35,7 +35,7 @@ fn similarity(e: Entry) -> Fraction
 
 // Whether e's numbers come first: the smaller lower context, then the smaller higher one.
 fn numbers_before(e: Entry, f: Entry) -> bool
-    ensures { λ r. ⌜ r ≡ numbersBefore (pairOf e) (pairOf f) ⌝ }
+    ensures { λ r. ⌜ r ≡ numbersBefore (entryPair e) (entryPair f) ⌝ }
 {
     let el = e.lower.0;
     let fl = f.lower.0;
@@ -139,12 +139,6 @@ fn put_entry(list: &mut [u16], at: usize, e: Entry)
     list[at + 3] = e.union;
 }
 
-fn smaller(x: usize, y: usize) -> usize
-    ensures { λ r. ⌜ r ≡ min x y ⌝ }
-{
-    if x < y { x } else { y }
-}
-
 // Lists e among the first `found` entries, and keeps the best k. It answers how many are listed.
 // Where k are listed, one look at the k-th turns an entry away that comes behind it.
 pub fn insert(list: &mut [u16], found: usize, k: usize, e: Entry) -> usize
@@ -160,7 +154,7 @@ pub fn insert(list: &mut [u16], found: usize, k: usize, e: Entry) -> usize
     if p >= k {
         return k;
     }
-    let keep = smaller(found, k - 1);
+    let keep = words::smaller(found, k - 1);
     shift(list, WIDTH * p, WIDTH * keep);
     put_entry(list, WIDTH * p, e);
     keep + 1

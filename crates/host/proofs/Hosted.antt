@@ -7,21 +7,21 @@ use Rattle.listing.specs.Answers.{answerOf}
 use Rattle.listing.specs.Calls.{Lists}
 use Rattle.listing.specs.declared.Listing.{Listing}
 use Rattle.listing.specs.declared.Listing.the-variants.{Text, Refused}
-use Rattle.host.specs.Call.{valueOf, valueBy, Hosts}
+use Rattle.host.specs.Call.{hostValue, hostValueBy, Hosts}
 
-value-same : (x : Read (List ℕ)) → valueBy (answerOf x) ≡ valueOf x
-unfolding answerOf valueBy valueOf
+value-same : (x : Read (List ℕ)) → hostValueBy (answerOf x) ≡ hostValue x
+unfolding answerOf hostValueBy hostValue
 value-same (value text) = refl
 value-same (refused n p) = refl
 
 module _ {sheet text text₂ : List ℕ} {r : Listing} (w : Lists sheet text r text₂) where
-  hosted : {v : ℕ} → v ≡ valueBy r → Hosts sheet text v text₂
-  hosted e = record { value-is = e ∙ ap valueBy (w .answer) ∙ value-same _; text-is = w .text-is }
+  hosted : {v : ℕ} → v ≡ hostValueBy r → Hosts sheet text v text₂
+  hosted e = record { value-is = e ∙ ap hostValueBy (w .answer) ∙ value-same _; text-is = w .text-is }
 
   pub hosted-text : {n : ℕ} → r ≡ Text n → Hosts sheet text n text₂
-  unfolding valueBy
+  unfolding hostValueBy
   hosted-text e = hosted (rw e)
 
   pub hosted-refusal : {n p : ℕ} → r ≡ Refused n p → Hosts sheet text (1000000 + n) text₂
-  unfolding valueBy
+  unfolding hostValueBy
   hosted-refusal e = hosted (rw e)

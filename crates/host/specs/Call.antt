@@ -11,16 +11,16 @@ use Rattle.listing.specs.declared.Listing.{Listing}
 use Rattle.listing.specs.declared.Listing.the-variants.{Text, Refused}
 
 -- the text's length, or 1,000,000 plus the refusal number
-unfoldable pub valueOf : Read (List ℕ) → ℕ
-valueOf (value text) = length text
-valueOf (refused n p) = 1000000 + n
+unfoldable pub hostValue : Read (List ℕ) → ℕ
+hostValue (value text) = length text
+hostValue (refused n p) = 1000000 + n
 
 -- the same of the library's answer
-unfoldable pub valueBy : Listing → ℕ
-valueBy (Text n) = n
-valueBy (Refused n p) = 1000000 + n
+unfoldable pub hostValueBy : Listing → ℕ
+hostValueBy (Text n) = n
+hostValueBy (Refused n p) = 1000000 + n
 
 -- `sazamkhri_listing` of a sheet into a lent buffer: the value, and the buffer afterwards, zero after a refusal and behind a listing
 pub record Hosts (sheet text : List ℕ) (r : ℕ) (text₂ : List ℕ) : Type 0 where
-  pub value-is : r ≡ valueOf (listingIn (length text) sheet)
+  pub value-is : r ≡ hostValue (listingIn (length text) sheet)
   pub text-is : text₂ ≡ padded (length text) (bytesOf (listingIn (length text) sheet))

@@ -13,16 +13,16 @@ use Rattle.tables.proofs.Checks as tables
 use Rattle.entries.specs.Entries.{width}
 use Rattle.join.specs.Join.{roomsCheck, callCheck}
 
-pub record Accepted (k : ℕ) (os cs : List ℕ) (list work : ℕ) : Type 0 where
+pub record CallAccepted (k : ℕ) (os cs : List ℕ) (list work : ℕ) : Type 0 where
   pub some : 0 < k
   pub few : k ≤ 64
   pub sound : Sound os cs
   pub list-room : width * k ≤ list
   pub work-room : 10240 ≤ work
 
-pub accepted : (k : ℕ) (os cs : List ℕ) (list work : ℕ) → callCheck k os cs list work ≡ check.Fine → Accepted k os cs list work
+pub call-accepted : (k : ℕ) (os cs : List ℕ) (list work : ℕ) → callCheck k os cs list work ≡ check.Fine → CallAccepted k os cs list work
 unfolding callCheck roomsCheck
-accepted k os cs list work e =
+call-accepted k os cs list work e =
     let a = both-fine (tablesCheck k os cs) _ e in
     let b = when-fine (ltb list (width * k)) 6 _ (a .1) in
     let c = when-fine (ltb work 10240) 7 _ (b .1) in

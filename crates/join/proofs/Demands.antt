@@ -25,12 +25,12 @@ use Rattle.join.specs.Join.{Joins}
 use Rattle.join.specs.Refusals.{Cause}
 use Rattle.site.proofs.Best.{list-sorted, list-once, list-shares, list-count, list-best, list-all}
 use Rattle.join.proofs.Causes.{refused-cause, cause-refused, refused-unchanged, refused-emptied}
-use Rattle.join.proofs.Checks.{accepted}
+use Rattle.join.proofs.Checks.{call-accepted}
 use Rattle.join.proofs.Outcomes.{listed-only}
 
 -- ---- demand 1: the refusals
 
--- Each refusal has its exact cause and place, so every other call is accepted and owes what demands 2 and 3 say.
+-- Each refusal has its exact cause and place, so every other call is call-accepted and owes what demands 2 and 3 say.
 pub record Demand-1 (k : ℕ) (offsets codes list work trail : List ℕ) (r : Answer) (list′ work′ trail′ : List ℕ) : Type 0 where
   -- it refuses with n at p exactly if that has its cause (specs/Refusals.antt)
   pub exactly : (n p : ℕ) → Tells r n (p ∷ []) ↔ Cause k offsets codes (length list) (length work) (length trail) n p
@@ -110,7 +110,7 @@ module _ {k : ℕ} {offsets codes list work trail : List ℕ} {r : Answer} {list
         let told = sym (e .1) ∙ w .told .1 in
         let n : met ≡ length (trailOf inUse site k) = cc told in
         let d : events ≡ length (eventsDone inUse site k) = cc told in
-        let R = sound-rises (accepted k offsets codes (length list) (length work) (a .0) .sound) in
+        let R = sound-rises (call-accepted k offsets codes (length list) (length work) (a .0) .sound) in
         record {
           held = w .trail-holds;
           counted = n;

@@ -48,8 +48,8 @@ abbrev pub Version : Type 0
 Version = ℕ → List ℕ → List ℕ → List ℕ → List ℕ → List ℕ → Outcome
 
 -- it meets the contract
-abbrev pub Meets : Version → Type 0
-Meets f = (k : ℕ) (offsets codes list work trail : List ℕ) → Joins k offsets codes list work trail (f k offsets codes list work trail .answer) (f k offsets codes list work trail .list) (f k offsets codes list work trail .work) (f k offsets codes list work trail .trail)
+abbrev pub MeetsContract : Version → Type 0
+MeetsContract f = (k : ℕ) (offsets codes list work trail : List ℕ) → Joins k offsets codes list work trail (f k offsets codes list work trail .answer) (f k offsets codes list work trail .list) (f k offsets codes list work trail .work) (f k offsets codes list work trail .trail)
 
 -- a work area of junk
 abbrev area : List ℕ
@@ -81,7 +81,7 @@ p9-so = ap (λ (l : List Told). getD l 9 nothing) (examples area area-long)
 
 -- ---- the hollow versions
 
-module _ (f : Version) (meets : Meets f) where
+module _ (f : Version) (meets : MeetsContract f) where
   on : Case → Outcome
   on c = f (c .k) (c .offsets) (c .codes) junkList area junkTrail
 

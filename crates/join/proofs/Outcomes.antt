@@ -17,7 +17,7 @@ use Rattle.search.specs.Outcome.{Outcome, outcome, searchOf}
 use Rattle.search.specs.declared.Answer.{Answer}
 use Rattle.search.specs.declared.Answer.the-variants as answer
 use Rattle.search.proofs.Answers.{tells-refused, refused-tells, tells-listed, listed-tells}
-use Rattle.join.specs.Join.{callCheck, joinOf, Joins, Unchanged, NoRoom, Found}
+use Rattle.join.specs.Join.{callCheck, joinOf, Joins, Unchanged, TrailFull, Found}
 
 -- a refusal tells no counts
 other : {X : Type 0} {n p f e m : ℕ} → answer.Refused n p ≡ answer.Listed f e m → X
@@ -45,7 +45,7 @@ module _ (k : ℕ) (os cs list work trail : List ℕ) where
 
     -- where the checks accept
     module _ (f : callCheck k os cs (length list) (length work) ≡ check.Fine) where
-      no-room-so : length trail < 2 * length (trailOf inUse (siteOf os cs) k) → outcome r list′ work′ trail′ ≡ joinOf k os cs list work trail → NoRoom k os cs list work trail r list′ work′ trail′
+      no-room-so : length trail < 2 * length (trailOf inUse (siteOf os cs) k) → outcome r list′ work′ trail′ ≡ joinOf k os cs list work trail → TrailFull k os cs list work trail r list′ work′ trail′
       unfolding joinOf searchOf
       no-room-so h e =
           let q = rw (f, lt-ltb (length trail) (2 * length (trailOf inUse (siteOf os cs) k)) h) at e in

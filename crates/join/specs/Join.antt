@@ -51,7 +51,7 @@ module _ (k : ℕ) (offsets codes list work trail : List ℕ) (r : Answer) (list
     pub trail-as-was : trail′ ≡ trail
 
   -- 8 at 0, and list, work area and trail are all zero
-  pub record NoRoom : Type 0 where
+  pub record TrailFull : Type 0 where
     pub told : Tells r 8 (0 ∷ [])
     pub list-zero : list′ ≡ zeros list
     pub work-zero : work′ ≡ zeros work
@@ -69,6 +69,6 @@ module _ (k : ℕ) (offsets codes list work trail : List ℕ) (r : Answer) (list
     -- 1 to 7: what the checks say
     pub refused : (n p : ℕ) → callCheck k offsets codes (length list) (length work) ≡ check.Refused n p → Unchanged n p
     -- 8: the whole trail does not fit
-    pub no-room : callCheck k offsets codes (length list) (length work) ≡ check.Fine → length trail < 2 * length (trailOf inUse (siteOf offsets codes) k) → NoRoom
+    pub no-room : callCheck k offsets codes (length list) (length work) ≡ check.Fine → length trail < 2 * length (trailOf inUse (siteOf offsets codes) k) → TrailFull
     -- else
     pub found : callCheck k offsets codes (length list) (length work) ≡ check.Fine → 2 * length (trailOf inUse (siteOf offsets codes) k) ≤ length trail → Found

@@ -9,12 +9,12 @@ use Rattle.tables.specs.Refusals.{Breaks, Broken}
 use Rattle.entries.specs.Entries.{width}
 
 -- no rule of k and of the tables is broken
-abbrev pub Kept : ℕ → List ℕ → List ℕ → Type 0
-Kept k offsets codes = (n p : ℕ) → Breaks k offsets codes n p → ⊥
+abbrev pub Unbroken : ℕ → List ℕ → List ℕ → Type 0
+Unbroken k offsets codes = (n p : ℕ) → Breaks k offsets codes n p → ⊥
 
 -- the cause of a refusal, where list, work and trail are as many words; each is looked at after those above it
 pub data Cause (k : ℕ) (offsets codes : List ℕ) (list work trail : ℕ) : ℕ → ℕ → Type 0 where
   tables : {n p : ℕ} → Broken k offsets codes n p → Cause k offsets codes list work trail n p
-  list-room : Kept k offsets codes → list < width * k → Cause k offsets codes list work trail 6 0
-  work-room : Kept k offsets codes → width * k ≤ list → work < 10240 → Cause k offsets codes list work trail 7 0
-  trail-room : Kept k offsets codes → width * k ≤ list → 10240 ≤ work → trail < 2 * length (trailOf inUse (siteOf offsets codes) k) → Cause k offsets codes list work trail 8 0
+  list-room : Unbroken k offsets codes → list < width * k → Cause k offsets codes list work trail 6 0
+  work-room : Unbroken k offsets codes → width * k ≤ list → work < 10240 → Cause k offsets codes list work trail 7 0
+  trail-room : Unbroken k offsets codes → width * k ≤ list → 10240 ≤ work → trail < 2 * length (trailOf inUse (siteOf offsets codes) k) → Cause k offsets codes list work trail 8 0

@@ -4,7 +4,7 @@
 ghost use mathlib.Core.Path.{_≡_};
 ghost use Prim.Native.Nat.{_<_};
 ghost use Rattle.entries.specs.Entries.{Ordered};
-ghost use Rattle.tables.specs.Checks.{numberOf, placeOf};
+ghost use Rattle.tables.specs.Checks.{checkNumber, checkPlace};
 use entries::Entry;
 use entries::insert;
 use entries::rank_before;
@@ -21,7 +21,7 @@ use walk::union_count;
 
 // The paper's number of an answer.
 fn number_of(c: Check) -> u64
-    ensures { λ r. ⌜ r ≡ numberOf c ⌝ }
+    ensures { λ r. ⌜ r ≡ checkNumber c ⌝ }
 {
     match c {
         Check::Fine => 0,
@@ -31,7 +31,7 @@ fn number_of(c: Check) -> u64
 
 // The place of a refusal.
 fn place_of(c: Check) -> u64
-    ensures { λ r. ⌜ r ≡ placeOf c ⌝ }
+    ensures { λ r. ⌜ r ≡ checkPlace c ⌝ }
 {
     match c {
         Check::Fine => 0,

@@ -16,7 +16,7 @@ use Rattle.sheet.specs.Read.{Read, value, refused}
 use Rattle.sheet.specs.Number.{digitsF, digitsOf, valueFrom, digitRun, mostDigits, digitsIn, numberOf}
 use Rattle.sheet.specs.Pieces.{onFirst, split}
 use Rattle.sheet.specs.Text.{codesText, lineText}
-use Rattle.sheet.specs.Reading.{behind, codesOf, contextOf, line, nothing, linesOf, readSheet}
+use Rattle.sheet.specs.Reading.{behind, codesRead, contextOf, line, nothing, linesOf, readSheet}
 use Rattle.listing.specs.Listing.{entryText, entriesText, countsText, listingText, refusedText, joined, listed, listingOf, fitted, listingIn, printed}
 
 -- the paper's sheet
@@ -57,7 +57,7 @@ table =
     ∷ []
 
 listings : map (λ c. listingIn (c .room) (c .sheet)) table ≡ map (λ c. c .told) table
-unfolding three threeListing twice more case table lineText entryText entriesText countsText listingText refusedText joined listed listingOf fitted listingIn printed behind codesOf contextOf line nothing linesOf readSheet codesText onFirst split digitsF digitsOf valueFrom digitRun mostDigits digitsIn numberOf sizesCheck tablesCheck earliest firstOf offsetRule endRule codeRule codeRuleBy member flat offsetsFrom allCodes jaccard _over_ below lesser reaches keep kth sortBy insertBy _thenBy_ has upTo grid common shared union pairsOf sharing numbersBefore rankBefore ranked topOf ahead eventsIn eventBefore eventsOf later earlier ceilingOf trailBefore cutOf eventsReaching pairsReaching trail
+unfolding three threeListing twice more case table lineText entryText entriesText countsText listingText refusedText joined listed listingOf fitted listingIn printed behind codesRead contextOf line nothing linesOf readSheet codesText onFirst split digitsF digitsOf valueFrom digitRun mostDigits digitsIn numberOf sizesCheck tablesCheck earliest firstOf offsetRule endRule codeRule codeRuleBy member flat offsetsFrom allCodes jaccard _over_ below lesser reaches keep kth sortBy insertBy _thenBy_ has upTo grid common shared union pairsOf sharing numbersBefore rankBefore ranked topOf ahead eventsIn eventBefore eventsOf later earlier ceilingOf trailBefore cutOf eventsReaching pairsReaching trail
 listings = refl
 
 lines : map (λ c. printed (c .told)) table ≡ map (λ c. c .prints) table

@@ -28,7 +28,7 @@ use Rattle.search.specs.declared.Answer.the-variants as answer
 use Rattle.sheet.specs.Read.{Read, value, refused}
 use Rattle.sheet.specs.Reading.{Sheet}
 use Rattle.listing.specs.Listing.{joined}
-use Rattle.listing.specs.Answers.{listRoom, countsOf, Told, Tells}
+use Rattle.listing.specs.Answers.{listRoom, countsOf, SheetJoined, TablesJoined}
 use Rattle.listing.specs.declared.Joined.the-variants as told
 
 -- the tables of a site cut it again
@@ -125,12 +125,12 @@ module _ (s : Sheet) where
   joined-is t h = rw (t, le-ltb 2048 (length (trail inUse (s .site) (s .k))) h)
 
 -- what is refused is told so
-pub told-refused : {x : Read Sheet} {n p : ℕ} (l : List ℕ) → x ≡ refused n p → Told x l (told.Refused n p)
+pub told-refused : {x : Read Sheet} {n p : ℕ} (l : List ℕ) → x ≡ refused n p → SheetJoined x l (told.Refused n p)
 unfolding countsOf
 told-refused {n = n} {p = p} l e = record { answer = rw e; held = λ s f. let z : _≡_ {A = Read Sheet} (refused n p) (value s) = sym e ∙ f in let y : _≡_ {A = ℕ} 0 1 = cc z in absurd (omega arith) }
 
 told-value : {x : Read Sheet} {s : Sheet} {f e m : ℕ} {l : List ℕ} → x ≡ value s → f ≡ length (listOf inUse (s .site) (s .k)) → e ≡ length (eventsDone inUse (s .site) (s .k)) → m ≡ length (trail inUse (s .site) (s .k))
-    → l ≡ padded listRoom (entryWords (s .site) (listOf inUse (s .site) (s .k))) → Told x l (told.Counts (s .k) f e m)
+    → l ≡ padded listRoom (entryWords (s .site) (listOf inUse (s .site) (s .k))) → SheetJoined x l (told.Counts (s .k) f e m)
 unfolding countsOf
 told-value {x} {s} {l = l} v a b c d = record {
   answer = rw (v, a, b, c);
@@ -145,7 +145,7 @@ module _ (s : Sheet) (list work buffer : List ℕ) (ll : length list ≡ listRoo
   same-trail : length (trail inUse tables (s .k)) ≡ length (trail inUse (s .site) (s .k))
   same-trail = ap (λ (z : Site). length (trail inUse z (s .k))) (tables-back (s .site))
 
-  stop-by : (c : Check) → checked s ≡ c → {n p : ℕ} → r ≡ answer.Refused n p → Told (joined s) l (told.Refused n p)
+  stop-by : (c : Check) → checked s ≡ c → {n p : ℕ} → r ≡ answer.Refused n p → SheetJoined (joined s) l (told.Refused n p)
   stop-by (check.Refused n′ p′) t {n} {p} h =
       let z : answer.Refused n p ≡ answer.Refused n′ p′ = sym h ∙ ap (λ (o : Outcome). o .answer) q ∙ join-stops _ _ _ list work buffer ll lw lb t in
       let a : n ≡ n′ = cc z in
@@ -162,7 +162,7 @@ module _ (s : Sheet) (list work buffer : List ℕ) (ll : length list ≡ listRoo
       let b : p ≡ 0 = cc z in
       told-refused l (joined-over s t (omega (arith, same-trail)) ∙ λ i. refused (sym a i) (sym b i)))
 
-  counts-by : (c : Check) → checked s ≡ c → {f e m : ℕ} → r ≡ answer.Listed f e m → Told (joined s) l (told.Counts (s .k) f e m)
+  counts-by : (c : Check) → checked s ≡ c → {f e m : ℕ} → r ≡ answer.Listed f e m → SheetJoined (joined s) l (told.Counts (s .k) f e m)
   counts-by (check.Refused n p) t {f} {e} {m} h =
       let z : answer.Listed f e m ≡ answer.Refused n p = sym h ∙ ap (λ (o : Outcome). o .answer) q ∙ join-stops _ _ _ list work buffer ll lw lb t in
       let y : _≡_ {A = ℕ} 0 1 = cc z in absurd (omega arith)
@@ -185,9 +185,9 @@ module _ (s : Sheet) (list work buffer : List ℕ) (ll : length list ≡ listRoo
 -- what the join tells of the sheet whose tables are lent
 module _ {k : ℕ} {os cs : List ℕ} (list work buffer : List ℕ) (ll : length list ≡ listRoom) (lw : length work ≡ 10240) (lb : length buffer ≡ 4096) {r : Answer} {l w b : List ℕ}
     (q : outcome r l w b ≡ joinOf k os cs list work buffer) where
-  pub tells-stop : {n p : ℕ} → r ≡ answer.Refused n p → Tells k os cs l (told.Refused n p)
+  pub tells-stop : {n p : ℕ} → r ≡ answer.Refused n p → TablesJoined k os cs l (told.Refused n p)
   tells-stop h s ek eo ec = stop-by s list work buffer ll lw lb (q ∙ λ i. joinOf (ek i) (eo i) (ec i) list work buffer) _ refl h
 
-  pub tells-counts : {f e m : ℕ} → r ≡ answer.Listed f e m → Tells k os cs l (told.Counts k f e m)
+  pub tells-counts : {f e m : ℕ} → r ≡ answer.Listed f e m → TablesJoined k os cs l (told.Counts k f e m)
   tells-counts {f} {e} {m} h s ek eo ec =
-      subst (λ (j : ℕ). Told (joined s) l (told.Counts j f e m)) (sym ek) (counts-by s list work buffer ll lw lb (q ∙ λ i. joinOf (ek i) (eo i) (ec i) list work buffer) _ refl h)
+      subst (λ (j : ℕ). SheetJoined (joined s) l (told.Counts j f e m)) (sym ek) (counts-by s list work buffer ll lw lb (q ∙ λ i. joinOf (ek i) (eo i) (ec i) list work buffer) _ refl h)

@@ -19,7 +19,7 @@ use Rattle.sheet.specs.Read.{Read, value, refused, _then_}
 use Rattle.sheet.specs.Reading.{Sheet, readSheet}
 use Rattle.sheet.proofs.Lines.{then-value}
 use Rattle.listing.specs.Listing.{joined}
-use Rattle.listing.specs.Answers.{countsOf, Told}
+use Rattle.listing.specs.Answers.{countsOf, SheetJoined}
 use Rattle.listing.specs.declared.Joined.{Joined}
 use Rattle.listing.specs.declared.Joined.the-variants as told
 use Rattle.listing.proofs.Joining.{checked, joined-stops, joined-over, joined-is, tables-back, events-few}
@@ -33,7 +33,7 @@ counts-refused (value s) e = let y : _≡_ {A = ℕ} 0 1 = cc e in absurd (omega
 counts-refused (refused m q) {n} {p} e = let a : m ≡ n = cc e in let b : q ≡ p = cc e in λ i. refused (a i) (b i)
 
 -- counts that were told are those of a sheet
-pub record Counted (x : Read Sheet) (k f e m : ℕ) : Type 0 where
+pub record CountsOf (x : Read Sheet) (k f e m : ℕ) : Type 0 where
   pub sheet : Sheet
   pub is : x ≡ value sheet
   pub asked : k ≡ sheet .k
@@ -41,7 +41,7 @@ pub record Counted (x : Read Sheet) (k f e m : ℕ) : Type 0 where
   pub events : e ≡ length (eventsDone inUse (sheet .site) (sheet .k))
   pub met : m ≡ length (trail inUse (sheet .site) (sheet .k))
 
-pub counted : (x : Read Sheet) {k f e m : ℕ} → countsOf x ≡ told.Counts k f e m → Counted x k f e m
+pub counted : (x : Read Sheet) {k f e m : ℕ} → countsOf x ≡ told.Counts k f e m → CountsOf x k f e m
 unfolding countsOf
 counted (refused m q) g = let y : _≡_ {A = ℕ} 0 1 = cc g in absurd (omega arith)
 counted (value s) {k} {f} {e} {m} g =
@@ -85,5 +85,5 @@ module _ {s : Sheet} (p : Passed s) where
       omega (arith, b, events-many (p .sound), p .sound .short, events-few (s .site) (s .k))
 
 -- where the join told counts, the list has room for its entries
-pub told-few : (sheet : List ℕ) {list : List ℕ} {j : Joined} → Told (readSheet 257 4096 sheet then joined) list j → {k f e m : ℕ} → j ≡ told.Counts k f e m → f ≤ 64
+pub told-few : (sheet : List ℕ) {list : List ℕ} {j : Joined} → SheetJoined (readSheet 257 4096 sheet then joined) list j → {k f e m : ℕ} → j ≡ told.Counts k f e m → f ≤ 64
 told-few sheet t q = let c = counted _ (sym (t .answer) ∙ q) in omega (arith, c .found, found-few (joined-passed (readSheet 257 4096 sheet) (c .is)))

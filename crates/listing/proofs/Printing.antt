@@ -19,7 +19,7 @@ use Rattle.listing.specs.Calls.{Lists, pageRoom, Prints}
 use Rattle.listing.specs.declared.Listing.{Listing}
 use Rattle.listing.specs.declared.Listing.the-variants as listing
 use Rattle.listing.proofs.Short.{line-short, listing-short}
-use Rattle.listing.proofs.Refusals.{Small, refusal-small}
+use Rattle.listing.proofs.Refusals.{SmallRefusal, refusal-small}
 
 -- ---- every listing fits
 
@@ -59,7 +59,7 @@ module _ {sheet text text₂ : List ℕ} {r : Listing} (w : Lists sheet text r t
     stopped : listingOf sheet ≡ refused n p
     stopped = answer-refused (listingOf sheet) (sym (rw whole at (w .answer)) ∙ e)
 
-    pub refusal-fits : Small n p
+    pub refusal-fits : SmallRefusal n p
     refusal-fits = refusal-small sheet stopped
 
     -- the text is zero

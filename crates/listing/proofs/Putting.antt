@@ -18,7 +18,7 @@ use Rattle.sheet.specs.Read.{Read, value, refused, _then_}
 use Rattle.sheet.specs.Reading.{Sheet, readSheet}
 use Rattle.sheet.proofs.Tables.{front-fits}
 use Rattle.listing.specs.Listing.{countsText, entriesText, listingText, joined, listed, listingOf, fitted, listingIn}
-use Rattle.listing.specs.Answers.{listRoom, answerOf, bytesOf, Told, Added, Put}
+use Rattle.listing.specs.Answers.{listRoom, answerOf, bytesOf, SheetJoined, Added, Put}
 use Rattle.listing.proofs.Adding.{added-stop}
 use Rattle.listing.proofs.Passing.{counts-refused, counted, joined-passed, found-few}
 use Rattle.listing.specs.declared.Listing.{Listing}
@@ -74,7 +74,7 @@ module _ (sheet : List ℕ) (room : ℕ) where
   unfolding listingIn listingOf listed
   put-long h now = put-refused now (rw (lt-ltb 24576 (length sheet) h))
 
-  module _ (h : length sheet ≤ 24576) {list : List ℕ} {j : Joined} (t : Told (readSheet 257 4096 sheet then joined) list j) where
+  module _ (h : length sheet ≤ 24576) {list : List ℕ} {j : Joined} (t : SheetJoined (readSheet 257 4096 sheet then joined) list j) where
     listed-is : listed sheet ≡ (readSheet 257 4096 sheet then joined)
     unfolding listed
     listed-is = rw (le-ltb 24576 (length sheet) h)

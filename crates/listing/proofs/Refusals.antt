@@ -25,11 +25,11 @@ use Rattle.listing.specs.Listing.{joined, listed, listingOf, fitted, lis
 use Rattle.listing.proofs.Joining.{checked, joined-stops, joined-over, joined-is}
 
 -- a number and a place of a refusal
-pub record Small (n p : ℕ) : Type 0 where
+pub record SmallRefusal (n p : ℕ) : Type 0 where
   pub number : n ≤ 11
   pub place : p ≤ 24576
 
-small : {n p a b : ℕ} → (n ≡ a) × (p ≡ b) → a ≤ 11 → b ≤ 24576 → Small n p
+small : {n p a b : ℕ} → (n ≡ a) × (p ≡ b) → a ≤ 11 → b ≤ 24576 → SmallRefusal n p
 small e h k = record { number = omega (arith, e .0); place = omega (arith, e .1) }
 
 -- the reader's
@@ -38,31 +38,31 @@ means-small (nine e a r) = omega arith
 means-small (ten e a) = omega arith
 means-small (eleven e a) = omega arith
 
-read-small : (s : List ℕ) {n p : ℕ} → length s ≤ 24576 → readSheet 257 4096 s ≡ refused n p → Small n p
+read-small : (s : List ℕ) {n p : ℕ} → length s ≤ 24576 → readSheet 257 4096 s ≡ refused n p → SmallRefusal n p
 read-small s h e = record { number = means-small (refusal-means 257 4096 s e); place = omega (arith, earliest 257 4096 s e .before .alike .left) }
 
 -- the join's
-breaks-small : {k : ℕ} {os cs : List ℕ} {n p : ℕ} → length os ≤ 257 → length cs ≤ 4096 → Breaks k os cs n p → Small n p
+breaks-small : {k : ℕ} {os cs : List ℕ} {n p : ℕ} → length os ≤ 257 → length cs ≤ 4096 → Breaks k os cs n p → SmallRefusal n p
 breaks-small l m (wrong-k w) = record { number = omega arith; place = omega arith }
 breaks-small l m (wrong-sizes w) = record { number = omega arith; place = omega arith }
 breaks-small l m (wrong-offset h w) = record { number = omega arith; place = omega arith }
 breaks-small l m (large-code h w) = record { number = omega arith; place = omega arith }
 breaks-small l m (code-falls h c w) = record { number = omega arith; place = omega arith }
 
-joined-small : (s : Sheet) (c : Check) → checked s ≡ c → {n p : ℕ} → length (offsetsOf (s .site)) ≤ 257 → length (allCodes (s .site)) ≤ 4096 → joined s ≡ refused n p → Small n p
+joined-small : (s : Sheet) (c : Check) → checked s ≡ c → {n p : ℕ} → length (offsetsOf (s .site)) ≤ 257 → length (allCodes (s .site)) ≤ 4096 → joined s ≡ refused n p → SmallRefusal n p
 joined-small s (check.Refused m q) t l k e = let b = breaks-small l k (refused-exactly (s .k) (offsetsOf (s .site)) (allCodes (s .site)) m q .0 t .here) in small (same-refusal (sym (joined-stops s t) ∙ e)) (b .number) (b .place)
 joined-small s check.Fine t {n} {p} l k e = by-le (length (trail inUse (s .site) (s .k))) 2048
     (λ h. let z : _≡_ {A = Read Sheet} (value s) (refused n p) = sym (joined-is s t h) ∙ e in let y : _≡_ {A = ℕ} 0 1 = cc z in absurd (omega arith))
     (λ h. small (same-refusal (sym (joined-over s t h) ∙ e)) (omega arith) (omega arith))
 
-listed-small : (sheet : List ℕ) {n p : ℕ} → listed sheet ≡ refused n p → Small n p
+listed-small : (sheet : List ℕ) {n p : ℕ} → listed sheet ≡ refused n p → SmallRefusal n p
 unfolding listed
 listed-small sheet {n} {p} e = by-le (length sheet) 24576
     (λ h. then-refused (readSheet 257 4096 sheet) joined (rw (le-ltb 24576 (length sheet) h) at e) (λ f. read-small sheet h f)
     (λ s f g. let w = read-fits 257 4096 sheet f in joined-small s _ refl (omega (arith, w .contexts, offsets-length 0 (s .site))) (omega (arith, w .room)) g))
     (λ h. small (same-refusal (rw (lt-ltb 24576 (length sheet) h) at e)) (omega arith) (omega arith))
 
-pub refusal-small : (sheet : List ℕ) {n p : ℕ} → listingOf sheet ≡ refused n p → Small n p
+pub refusal-small : (sheet : List ℕ) {n p : ℕ} → listingOf sheet ≡ refused n p → SmallRefusal n p
 unfolding listingOf
 refusal-small sheet {n} {p} e = then-refused (listed sheet) _ e (λ f. listed-small sheet f)
     (λ s f g. let y : _≡_ {A = ℕ} 0 1 = cc g in absurd (omega arith))

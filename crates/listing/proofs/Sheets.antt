@@ -15,7 +15,7 @@ use Rattle.reader.specs.Answers.{answerOf, offsetsBy, codesBy}
 use Rattle.reader.specs.declared.Reading.{Reading}
 use Rattle.reader.specs.declared.Reading.the-variants as reading
 use Rattle.listing.specs.Listing.{joined}
-use Rattle.listing.specs.Answers.{Told, Tells}
+use Rattle.listing.specs.Answers.{SheetJoined, TablesJoined}
 use Rattle.listing.specs.declared.Joined.{Joined}
 use Rattle.listing.specs.declared.Joined.the-variants as told
 use Rattle.listing.proofs.Joining.{told-refused}
@@ -49,7 +49,7 @@ read-sheet (value s) {k} {c} {n} e =
     record { sheet = s; is = refl; asked = sym a; contexts = sym b; codes = sym d }
 
 module _ (sheet : List ℕ) {r : Reading} (e : r ≡ answerOf (readSheet 257 4096 sheet)) where
-  pub sheet-refused : {n p : ℕ} (list : List ℕ) → r ≡ reading.Refused n p → Told (readSheet 257 4096 sheet then joined) list (told.Refused n p)
+  pub sheet-refused : {n p : ℕ} (list : List ℕ) → r ≡ reading.Refused n p → SheetJoined (readSheet 257 4096 sheet then joined) list (told.Refused n p)
   sheet-refused list f = told-refused list (rw (read-refused (readSheet 257 4096 sheet) (sym e ∙ f)))
 
   module _ {k c n : ℕ} (f : r ≡ reading.Sheet k c n) where
@@ -78,5 +78,5 @@ module _ (sheet : List ℕ) {r : Reading} (e : r ≡ answerOf (readSheet 257 409
 
     -- so what the join tells of the parts, it tells of the sheet
     pub sheet-told : {os cs list : List ℕ} {j : Joined} → os ≡ padded 257 (offsetsBy (readSheet 257 4096 sheet)) → cs ≡ padded 4096 (codesBy (readSheet 257 4096 sheet))
-        → Tells k (take (c + 1) os) (take n cs) list j → Told (readSheet 257 4096 sheet then joined) list j
+        → TablesJoined k (take (c + 1) os) (take n cs) list j → SheetJoined (readSheet 257 4096 sheet then joined) list j
     sheet-told o p t = let s = sheeted in rw (s .is) (t (s .sheet) (s .asked) (offsets-part o) (codes-part p))

@@ -42,13 +42,13 @@ countsOf (value s) = told.Counts (s .k) (length (listOf inUse (s .site) (s .k)))
 countsOf (refused n p) = told.Refused n p
 
 -- what is joined, x: the counts, and the list in its buffer
-pub record Told (x : Read Sheet) (list : List ℕ) (r : Joined) : Type 0 where
+pub record SheetJoined (x : Read Sheet) (list : List ℕ) (r : Joined) : Type 0 where
   pub answer : r ≡ countsOf x
   pub held : (s : Sheet) → x ≡ value s → list ≡ padded listRoom (entryWords (s .site) (listOf inUse (s .site) (s .k)))
 
 -- the same of a site whose tables are lent
-abbrev pub Tells : ℕ → List ℕ → List ℕ → List ℕ → Joined → Type 0
-Tells k offsets codes list r = (s : Sheet) → k ≡ s .k → offsets ≡ offsetsOf (s .site) → codes ≡ allCodes (s .site) → Told (joined s) list r
+abbrev pub TablesJoined : ℕ → List ℕ → List ℕ → List ℕ → Joined → Type 0
+TablesJoined k offsets codes list r = (s : Sheet) → k ≡ s .k → offsets ≡ offsetsOf (s .site) → codes ≡ allCodes (s .site) → SheetJoined (joined s) list r
 
 -- a line or lines, bs, written behind the pen p: the pen behind them, or no room for them
 pub record Added (bs old now : List ℕ) (p : Pen) (r : Penned) : Type 0 where

@@ -15,7 +15,7 @@ ghost use Rattle.sheet.specs.Read.{_then_};
 ghost use Rattle.sheet.specs.Reading.{readSheet};
 ghost use Rattle.sheet.specs.Text.{lineText};
 ghost use Rattle.listing.specs.Listing.{countsText, entriesText, joined, fitted, listingIn, refusedText};
-ghost use Rattle.listing.specs.Answers.{listRoom, Told, Tells, Added, Put};
+ghost use Rattle.listing.specs.Answers.{listRoom, SheetJoined, TablesJoined, Added, Put};
 ghost use Rattle.listing.specs.Calls.{pageRoom, Lists, Prints};
 
 // The most bytes of a sheet.
@@ -63,7 +63,7 @@ enum Penned {
 // Joins tables, with a work area and a trail of its own: room for 2,048 pairs.
 fn join_tables(k: u16, offsets: &[u16], codes: &[u16], list: &mut [u16]) -> Joined
     requires { ⌜ length (now list) ≡ listRoom ⌝ }
-    ensures { λ r. ⌜ Tells k (now (offsets .entry)) (now (codes .entry)) (now (list .exit)) r ⌝ }
+    ensures { λ r. ⌜ TablesJoined k (now (offsets .entry)) (now (codes .entry)) (now (list .exit)) r ⌝ }
 {
     let mut work = [0u16; WORK];
     let mut trail = [0u16; TRAIL];
@@ -82,7 +82,7 @@ fn join_tables(k: u16, offsets: &[u16], codes: &[u16], list: &mut [u16]) -> Join
 // Reads a sheet into tables of its own, and joins them.
 fn join_sheet(sheet: &[u8], list: &mut [u16]) -> Joined
     requires { ⌜ length (now list) ≡ listRoom ⌝ }
-    ensures { λ r. ⌜ Told (readSheet 257 4096 (now (sheet .entry)) then joined) (now (list .exit)) r ⌝ }
+    ensures { λ r. ⌜ SheetJoined (readSheet 257 4096 (now (sheet .entry)) then joined) (now (list .exit)) r ⌝ }
 {
     let mut offsets = [0u16; OFFSETS];
     let mut codes = [0u16; CODES];

@@ -10,17 +10,17 @@ use borrow.Author.Tests.{eq-eqb, ne-eqb}
 use lib.ListN.{length, getD, take, drop, replicate, drop-of-length-le}
 use lib.Seq.{take-suc, take-all, drop-cons}
 use Rattle.site.proofs.Contexts.{getD-in}
-use Rattle.marks.specs.Marks.{codeWords, Small, marksOf, withMark, bitOf, markedCount, markedFrom}
+use Rattle.marks.specs.Marks.{codeWords, HaveMarks, marksOf, withMark, bitOf, markedCount, markedFrom}
 use Rattle.marks.proofs.Marked.{marks-length, marks-none, marks-more}
 
-pub small-at : (xs : List ℕ) → Small xs → (n : ℕ) → n < length xs → getD xs n 0 < 4096
+pub small-at : (xs : List ℕ) → HaveMarks xs → (n : ℕ) → n < length xs → getD xs n 0 < 4096
 small-at xs s n h = s (getD xs n 0) (getD-in xs n 0 h)
 
 -- a code has its mark among those of codes
-pub code-marked : (xs marks : List ℕ) → length marks ≡ codeWords → Small xs → (n : ℕ) → n < length xs → getD xs n 0 < 16 * length marks
+pub code-marked : (xs marks : List ℕ) → length marks ≡ codeWords → HaveMarks xs → (n : ℕ) → n < length xs → getD xs n 0 < 16 * length marks
 code-marked xs marks e s n h = omega (arith, e, small-at xs s n h)
 
-pub small-by : (xs : List ℕ) → ((n : ℕ) → n < length xs → getD xs n 0 < 4096) → Small xs
+pub small-by : (xs : List ℕ) → ((n : ℕ) → n < length xs → getD xs n 0 < 4096) → HaveMarks xs
 small-by [] h = λ x m. absurd (not-nil m)
 small-by (y ∷ ys) h = λ x m. ⊎-elim (λ (e : x ≡ y). rw e (h 0 (omega arith))) (λ i. small-by ys (λ n l. h (suc n) (omega arith)) x i) (first-or-rest m)
 
@@ -39,7 +39,7 @@ marking-start {xs} {marks} old l e =
     record { within = zero-le; long = ap length m ∙ marks-length codeWords (take 0 xs); same = m }
 
 module _ {xs marks : List ℕ} {n : ℕ} (w : Marking xs marks n) where
-  pub marking-next : n < length xs → Small xs → {out : List ℕ} → out ≡ withMark marks (getD xs n 0) → Marking xs out (n + 1)
+  pub marking-next : n < length xs → HaveMarks xs → {out : List ℕ} → out ≡ withMark marks (getD xs n 0) → Marking xs out (n + 1)
   marking-next h s {out} o =
       let x = getD xs n 0 in
       let more : take (n + 1) xs ≡ take n xs ++ x ∷ [] = rw (add-one n) (take-suc xs n 0 h) in

@@ -16,7 +16,7 @@ use Rattle.site.specs.Events.{ahead}
 use Rattle.site.proofs.Contexts.{has-in}
 use Rattle.site.proofs.Rows.{row-length, row-at, row-zeros, row-set}
 use Rattle.words.proofs.Split.{by-eq}
-use Rattle.marks.specs.Marks.{codeWords, Small, bit, bits, markWord, marksOf, withMark, bitOf, isMarked, markedCount, markedFrom}
+use Rattle.marks.specs.Marks.{codeWords, HaveMarks, bit, bits, markWord, marksOf, withMark, bitOf, isMarked, markedCount, markedFrom}
 use Rattle.marks.proofs.Bits.{bits-same, bit-at, or-bit}
 
 pub marks-length : (n : ℕ) (xs : List ℕ) → length (marksOf n xs) ≡ n
@@ -85,7 +85,7 @@ one-not-zero : _≡_ {A = ℕ} 1 0 → ⊥
 one-not-zero e = absurd (omega arith)
 
 -- the codes marked are those that both have
-pub marked-shared : (xs ys : List ℕ) → Small ys → markedCount (marksOf codeWords xs) ys ≡ shared ys xs
+pub marked-shared : (xs ys : List ℕ) → HaveMarks ys → markedCount (marksOf codeWords xs) ys ≡ shared ys xs
 unfolding markedCount shared common keep
 marked-shared xs [] h = refl
 marked-shared xs (y ∷ ys) h =
@@ -96,7 +96,7 @@ marked-shared xs (y ∷ ys) h =
     (λ f. rw f (omega (arith, more, b ∙ ap bit f)))
 
 -- and counted from code x on they are those, if x is the first that both have
-pub marked-first : (xs ys : List ℕ) (x : ℕ) → Small ys → markedFrom (marksOf codeWords xs) x ys ≡ cond (eqb (getD ys (ahead (has xs) ys) 0) x) (shared ys xs) 0
+pub marked-first : (xs ys : List ℕ) (x : ℕ) → HaveMarks ys → markedFrom (marksOf codeWords xs) x ys ≡ cond (eqb (getD ys (ahead (has xs) ys) 0) x) (shared ys xs) 0
 unfolding markedFrom ahead shared common keep
 marked-first xs [] x h = cases (eqb 0 x) (λ t. rw t) (λ f. rw f)
 marked-first xs (y ∷ ys) x h =

@@ -13,8 +13,8 @@ abbrev pub codeWords : ℕ
 codeWords = 256
 
 -- codes that have a mark
-abbrev pub Small : List ℕ → Type 0
-Small xs = (x : ℕ) → x ∈ xs → x < 4096
+abbrev pub HaveMarks : List ℕ → Type 0
+HaveMarks xs = (x : ℕ) → x ∈ xs → x < 4096
 
 -- 1 for true, 0 for false
 abbrev pub bit : Bool → ℕ

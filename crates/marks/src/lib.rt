@@ -3,7 +3,7 @@
 ghost use mathlib.Core.Path.{_≡_};
 ghost use Prim.Native.Nat.{_*_, _≤_, _<_};
 ghost use lib.ListN.{length, drop};
-ghost use Rattle.marks.specs.Marks.{codeWords, Small, marksOf, withMark, bitOf, isMarked, markedCount, markedFrom};
+ghost use Rattle.marks.specs.Marks.{codeWords, HaveMarks, marksOf, withMark, bitOf, isMarked, markedCount, markedFrom};
 use words::zero_words;
 
 // How many words the marks of codes have.
@@ -22,7 +22,7 @@ pub fn put_mark(marks: &mut [u16], x: u16)
 
 // Marks the codes of a context, and no others.
 pub fn mark(marks: &mut [u16], xs: &[u16])
-    requires { ⌜ (length (now marks) ≡ codeWords) × Small (now xs) ⌝ }
+    requires { ⌜ (length (now marks) ≡ codeWords) × HaveMarks (now xs) ⌝ }
     ensures { λ _. ⌜ now (marks .exit) ≡ marksOf codeWords (now (xs .entry)) ⌝ }
 {
     zero_words(marks, 0);
@@ -54,7 +54,7 @@ pub fn is_marked(marks: &[u16], x: u16) -> bool
 
 // How many codes of a context are marked, from an index on.
 fn count_from(marks: &[u16], ys: &[u16], from: usize) -> u16
-    requires { ⌜ (length (now marks) ≡ codeWords) × Small (now ys) ⌝ }
+    requires { ⌜ (length (now marks) ≡ codeWords) × HaveMarks (now ys) ⌝ }
     requires { ⌜ (length (now ys) ≤ 4096) × (from ≤ length (now ys)) ⌝ }
     ensures { λ r. ⌜ r ≡ markedCount (now (marks .entry)) (drop from (now (ys .entry))) ⌝ }
 {
@@ -71,7 +71,7 @@ fn count_from(marks: &[u16], ys: &[u16], from: usize) -> u16
 
 // The marked codes of a context, counted from code x on, if x is the first of them; else 0.
 pub fn marked_from(marks: &[u16], ys: &[u16], x: u16) -> u16
-    requires { ⌜ (length (now marks) ≡ codeWords) × Small (now ys) ⌝ }
+    requires { ⌜ (length (now marks) ≡ codeWords) × HaveMarks (now ys) ⌝ }
     requires { ⌜ length (now ys) ≤ 4096 ⌝ }
     ensures { λ r. ⌜ r ≡ markedFrom (now (marks .entry)) x (now (ys .entry)) ⌝ }
 {

@@ -16,42 +16,42 @@ use Rattle.reader.specs.Answers.{answerOf, offsetsBy, codesBy}
 use Rattle.reader.specs.declared.Reading.{Reading}
 use Rattle.writer.specs.Writes.{answerBy, textBy}
 use Rattle.writer.specs.declared.Writing.{Writing}
-use Rattle.probe.specs.Probe.{joinWords, readWords, writeWords, told, joined, probeJoin, loaded, probeRead, printed, probeWrite}
+use Rattle.probe.specs.Probe.{joinWords, readWords, writeWords, told, afterJoin, probeJoin, afterRead, probeRead, afterWrite, probeWrite}
 
 module _ (k : ℕ) (offsets codes list work trail old : List ℕ) where
-  pub join-left : length old < 4 → joined list work trail old ≡ probeJoin k offsets codes list work trail old
+  pub join-left : length old < 4 → afterJoin list work trail old ≡ probeJoin k offsets codes list work trail old
   unfolding probeJoin
   join-left h = rw (lt-ltb (length old) 4 h)
 
   pub join-told : 4 ≤ length old → (r : Answer) {list′ work′ trail′ answer : List ℕ} → outcome r list′ work′ trail′ ≡ joinOf k offsets codes list work trail → answer ≡ told (joinWords r) old
-      → joined list′ work′ trail′ answer ≡ probeJoin k offsets codes list work trail old
+      → afterJoin list′ work′ trail′ answer ≡ probeJoin k offsets codes list work trail old
   unfolding probeJoin
   join-told h r e q =
       let p = q ∙ ap (λ (o : Outcome). told (joinWords (o .answer)) old) e in
-      rw (le-ltb (length old) 4 h) (λ i. joined (e i .list) (e i .work) (e i .trail) (p i))
+      rw (le-ltb (length old) 4 h) (λ i. afterJoin (e i .list) (e i .work) (e i .trail) (p i))
 
 module _ (sheet offsets codes old : List ℕ) where
-  pub read-left : length old < 4 → loaded offsets codes old ≡ probeRead sheet offsets codes old
+  pub read-left : length old < 4 → afterRead offsets codes old ≡ probeRead sheet offsets codes old
   unfolding probeRead
   read-left h = rw (lt-ltb (length old) 4 h)
 
   pub read-told : 4 ≤ length old → (r : Reading) {offsets′ codes′ answer : List ℕ} → r ≡ answerOf (readSheet (length offsets) (length codes) sheet)
       → offsets′ ≡ padded (length offsets) (offsetsBy (readSheet (length offsets) (length codes) sheet)) → codes′ ≡ padded (length codes) (codesBy (readSheet (length offsets) (length codes) sheet)) → answer ≡ told (readWords r) old
-      → loaded offsets′ codes′ answer ≡ probeRead sheet offsets codes old
+      → afterRead offsets′ codes′ answer ≡ probeRead sheet offsets codes old
   unfolding probeRead
   read-told h r e o c q =
       let p = q ∙ ap (λ (x : Reading). told (readWords x) old) e in
-      rw (le-ltb (length old) 4 h) (λ i. loaded (o i) (c i) (p i))
+      rw (le-ltb (length old) 4 h) (λ i. afterRead (o i) (c i) (p i))
 
 module _ (k : ℕ) (offsets codes text old : List ℕ) where
-  pub write-left : length old < 4 → printed text old ≡ probeWrite k offsets codes text old
+  pub write-left : length old < 4 → afterWrite text old ≡ probeWrite k offsets codes text old
   unfolding probeWrite
   write-left h = rw (lt-ltb (length old) 4 h)
 
   pub write-told : 4 ≤ length old → (r : Writing) {text′ answer : List ℕ} → r ≡ answerBy (tablesCheck k offsets codes) (sheetText k (siteOf offsets codes)) (length text)
       → text′ ≡ textBy (tablesCheck k offsets codes) (sheetText k (siteOf offsets codes)) text → answer ≡ told (writeWords r) old
-      → printed text′ answer ≡ probeWrite k offsets codes text old
+      → afterWrite text′ answer ≡ probeWrite k offsets codes text old
   unfolding probeWrite
   write-told h r e t q =
       let p = q ∙ ap (λ (x : Writing). told (writeWords x) old) e in
-      rw (le-ltb (length old) 4 h) (λ i. printed (t i) (p i))
+      rw (le-ltb (length old) 4 h) (λ i. afterWrite (t i) (p i))

@@ -44,52 +44,52 @@ told words old = words ++ drop 4 old
 -- ---- what a call leaves: nothing is done where the answer has under four words
 
 -- the join's three buffers, and the answer
-pub record Joined : Type 0 where
+pub record AfterJoin : Type 0 where
   pub list : List ℕ
   pub work : List ℕ
   pub trail : List ℕ
   pub answer : List ℕ
 
 -- the four of them
-abbrev pub joined : List ℕ → List ℕ → List ℕ → List ℕ → Joined
-joined list work trail answer = record { list = list; work = work; trail = trail; answer = answer }
+abbrev pub afterJoin : List ℕ → List ℕ → List ℕ → List ℕ → AfterJoin
+afterJoin list work trail answer = record { list = list; work = work; trail = trail; answer = answer }
 
 -- the outcome of a join, in words
-abbrev pub inWords : Outcome → List ℕ → Joined
-inWords o old = joined (o .list) (o .work) (o .trail) (told (joinWords (o .answer)) old)
+abbrev pub inWords : Outcome → List ℕ → AfterJoin
+inWords o old = afterJoin (o .list) (o .work) (o .trail) (told (joinWords (o .answer)) old)
 
 -- what `probe_join` leaves
-unfoldable pub probeJoin : ℕ → List ℕ → List ℕ → List ℕ → List ℕ → List ℕ → List ℕ → Joined
-probeJoin k offsets codes list work trail old = cond (ltb (length old) 4) (joined list work trail old) (inWords (joinOf k offsets codes list work trail) old)
+unfoldable pub probeJoin : ℕ → List ℕ → List ℕ → List ℕ → List ℕ → List ℕ → List ℕ → AfterJoin
+probeJoin k offsets codes list work trail old = cond (ltb (length old) 4) (afterJoin list work trail old) (inWords (joinOf k offsets codes list work trail) old)
 
 -- the reader's two tables, and the answer
-pub record Loaded : Type 0 where
+pub record AfterRead : Type 0 where
   pub offsets : List ℕ
   pub codes : List ℕ
   pub answer : List ℕ
 
 -- the three of them
-abbrev pub loaded : List ℕ → List ℕ → List ℕ → Loaded
-loaded offsets codes answer = record { offsets = offsets; codes = codes; answer = answer }
+abbrev pub afterRead : List ℕ → List ℕ → List ℕ → AfterRead
+afterRead offsets codes answer = record { offsets = offsets; codes = codes; answer = answer }
 
 -- what `probe_read` leaves
-unfoldable pub probeRead : List ℕ → List ℕ → List ℕ → List ℕ → Loaded
+unfoldable pub probeRead : List ℕ → List ℕ → List ℕ → List ℕ → AfterRead
 probeRead sheet offsets codes old =
     let x = readSheet (length offsets) (length codes) sheet in
-    cond (ltb (length old) 4) (loaded offsets codes old) (loaded (padded (length offsets) (offsetsBy x)) (padded (length codes) (codesBy x)) (told (readWords (answerOf x)) old))
+    cond (ltb (length old) 4) (afterRead offsets codes old) (afterRead (padded (length offsets) (offsetsBy x)) (padded (length codes) (codesBy x)) (told (readWords (answerOf x)) old))
 
 -- the writer's text, and the answer
-pub record Printed : Type 0 where
+pub record AfterWrite : Type 0 where
   pub text : List ℕ
   pub answer : List ℕ
 
 -- the two of them
-abbrev pub printed : List ℕ → List ℕ → Printed
-printed text answer = record { text = text; answer = answer }
+abbrev pub afterWrite : List ℕ → List ℕ → AfterWrite
+afterWrite text answer = record { text = text; answer = answer }
 
 -- what `probe_write` leaves
-unfoldable pub probeWrite : ℕ → List ℕ → List ℕ → List ℕ → List ℕ → Printed
+unfoldable pub probeWrite : ℕ → List ℕ → List ℕ → List ℕ → List ℕ → AfterWrite
 probeWrite k offsets codes text old =
     let x = tablesCheck k offsets codes in
     let s = sheetText k (siteOf offsets codes) in
-    cond (ltb (length old) 4) (printed text old) (printed (textBy x s text) (told (writeWords (answerBy x s (length text))) old))
+    cond (ltb (length old) 4) (afterWrite text old) (afterWrite (textBy x s text) (told (writeWords (answerBy x s (length text))) old))

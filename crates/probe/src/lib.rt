@@ -4,7 +4,7 @@ ghost use mathlib.Core.List.{[], _∷_};
 ghost use mathlib.Core.Path.{_≡_};
 ghost use Prim.Native.Nat.{_≤_};
 ghost use lib.ListN.{length};
-ghost use Rattle.probe.specs.Probe.{joinWords, readWords, writeWords, told, joined, probeJoin, loaded, probeRead, printed, probeWrite};
+ghost use Rattle.probe.specs.Probe.{joinWords, readWords, writeWords, told, afterJoin, probeJoin, afterRead, probeRead, afterWrite, probeWrite};
 use join::Answer;
 use join::join;
 use reader::Reading;
@@ -68,7 +68,7 @@ pub extern "C" fn probe_join(
     answer: &mut [u64],
 ) -> u64
     ensures { λ r. ⌜ r ≡ 0 ⌝ }
-    ensures { λ _. ⌜ joined (now (list .exit)) (now (work .exit)) (now (trail .exit)) (now (answer .exit)) ≡ probeJoin k (now (offsets .entry)) (now (codes .entry)) (now (list .entry)) (now (work .entry)) (now (trail .entry)) (now (answer .entry)) ⌝ }
+    ensures { λ _. ⌜ afterJoin (now (list .exit)) (now (work .exit)) (now (trail .exit)) (now (answer .exit)) ≡ probeJoin k (now (offsets .entry)) (now (codes .entry)) (now (list .entry)) (now (work .entry)) (now (trail .entry)) (now (answer .entry)) ⌝ }
 {
     if answer.len() < 4 {
         return 0;
@@ -86,7 +86,7 @@ pub extern "C" fn probe_read(
     answer: &mut [u64],
 ) -> u64
     ensures { λ r. ⌜ r ≡ 0 ⌝ }
-    ensures { λ _. ⌜ loaded (now (offsets .exit)) (now (codes .exit)) (now (answer .exit)) ≡ probeRead (now (sheet .entry)) (now (offsets .entry)) (now (codes .entry)) (now (answer .entry)) ⌝ }
+    ensures { λ _. ⌜ afterRead (now (offsets .exit)) (now (codes .exit)) (now (answer .exit)) ≡ probeRead (now (sheet .entry)) (now (offsets .entry)) (now (codes .entry)) (now (answer .entry)) ⌝ }
 {
     if answer.len() < 4 {
         return 0;
@@ -105,7 +105,7 @@ pub extern "C" fn probe_write(
     answer: &mut [u64],
 ) -> u64
     ensures { λ r. ⌜ r ≡ 0 ⌝ }
-    ensures { λ _. ⌜ printed (now (text .exit)) (now (answer .exit)) ≡ probeWrite k (now (offsets .entry)) (now (codes .entry)) (now (text .entry)) (now (answer .entry)) ⌝ }
+    ensures { λ _. ⌜ afterWrite (now (text .exit)) (now (answer .exit)) ≡ probeWrite k (now (offsets .entry)) (now (codes .entry)) (now (text .entry)) (now (answer .entry)) ⌝ }
 {
     if answer.len() < 4 {
         return 0;

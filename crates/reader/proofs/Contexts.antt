@@ -9,7 +9,7 @@ use lib.ListN.{length, take, drop, length-take, length-drop}
 use Rattle.sheet.specs.Read.{Read, value}
 use Rattle.sheet.specs.Pieces.{split}
 use Rattle.sheet.specs.Text.{cKey}
-use Rattle.sheet.specs.Reading.{behind, codesOf, contextOf}
+use Rattle.sheet.specs.Reading.{behind, codesRead, contextOf}
 use Rattle.reader.specs.declared.Part.{Part}
 use Rattle.reader.specs.declared.Part.the-variants as part
 use Rattle.reader.specs.Parts.{partBy, lineBy, codesAfter, endedBy, matchedBy, lineAt, wordsOf, contextIn, contextLine}
@@ -18,7 +18,7 @@ use Rattle.reader.proofs.Keys.{line-broken, line-behind, tail-end}
 use Rattle.reader.proofs.Ends.{line-ended}
 use Rattle.reader.proofs.Worded.{stored-refused}
 
-context-some : (most used at : ℕ) (l : List ℕ) → 0 < length l → contextOf most used at l ≡ codesOf most used at (split 32 l)
+context-some : (most used at : ℕ) (l : List ℕ) → 0 < length l → contextOf most used at l ≡ codesRead most used at (split 32 l)
 unfolding contextOf
 context-some most used at [] h = absurd (omega arith)
 context-some most used at (b ∷ l) h = refl

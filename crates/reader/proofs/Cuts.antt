@@ -9,20 +9,20 @@ use native.Mathlib.Omega.{arith}
 use borrow.Author.Tests.{eq-eqb, ne-eqb}
 use lib.ListN.{length, getD, take, drop, drop-of-length-le, length-take, length-drop}
 use lib.Seq.{drop-cons}
-use Rattle.sheet.specs.Pieces.{upTo}
+use Rattle.sheet.specs.Pieces.{frontTo}
 use Rattle.sheet.proofs.Pieces.{take-up-to}
 
 pub record Sought (s : List ℕ) (b a e : ℕ) : Type 0 where
   pub from : a ≤ e
   pub within : e ≤ length s
-  pub same : a + length (upTo b (drop a s)) ≡ e + length (upTo b (drop e s))
+  pub same : a + length (frontTo b (drop a s)) ≡ e + length (frontTo b (drop e s))
 
 pub sought-start : {s : List ℕ} {b a : ℕ} → a ≤ length s → Sought s b a a
 sought-start {a = a} h = record { from = le-refl a; within = h; same = refl }
 
 module _ {s : List ℕ} {b a e : ℕ} (w : Sought s b a e) where
   pub sought-next : e < length s → (getD s e 0 ≡ b → ⊥) → Sought s b a (e + 1)
-  unfolding upTo
+  unfolding frontTo
   sought-next h n =
       let f = rw (drop-cons s e 0 h, ne-eqb (getD s e 0) b n) at (w .same) in
       record { from = omega (arith, w .from); within = omega arith; same = rw (add-one e) (omega (arith, f)) }
@@ -32,13 +32,13 @@ module _ {s : List ℕ} {b a e : ℕ} (w : Sought s b a e) where
   cut-within = simp (length-take, length-drop) (omega (arith, w .from, w .within))
 
   -- it is the piece, if that ends at e
-  cut-is : e ≡ a + length (upTo b (drop a s)) → take (e - a) (drop a s) ≡ upTo b (drop a s)
-  cut-is q = let n : e - a ≡ length (upTo b (drop a s)) = omega arith in rw n (take-up-to b (drop a s))
+  cut-is : e ≡ a + length (frontTo b (drop a s)) → take (e - a) (drop a s) ≡ frontTo b (drop a s)
+  cut-is q = let n : e - a ≡ length (frontTo b (drop a s)) = omega arith in rw n (take-up-to b (drop a s))
 
-  pub cut-here : e < length s → getD s e 0 ≡ b → take (e - a) (drop a s) ≡ upTo b (drop a s)
-  unfolding upTo
+  pub cut-here : e < length s → getD s e 0 ≡ b → take (e - a) (drop a s) ≡ frontTo b (drop a s)
+  unfolding frontTo
   cut-here h q = let f = rw (drop-cons s e 0 h, eq-eqb (getD s e 0) b q) at (w .same) in cut-is (omega (arith, f))
 
-  pub cut-end : length s ≤ e → take (e - a) (drop a s) ≡ upTo b (drop a s)
-  unfolding upTo
+  pub cut-end : length s ≤ e → take (e - a) (drop a s) ≡ frontTo b (drop a s)
+  unfolding frontTo
   cut-end h = let f = rw (drop-of-length-le s h) at (w .same) in cut-is (omega (arith, f))

@@ -25,7 +25,7 @@ unfolding partBy
 held-refused end e = record { answer = rw e; contexts = λ s f. no-value (sym e ∙ f); codes-front = λ s f. no-value (sym e ∙ f) }
 
 -- i contexts of n are done, with `used` codes, and the rest stands from the place `from` on
-pub record Lined (sheet offsets₀ offsets codes₀ codes : List ℕ) (at n from used i : ℕ) : Type 0 where
+pub record LinesDone (sheet offsets₀ offsets codes₀ codes : List ℕ) (at n from used i : ℕ) : Type 0 where
   pub done : List (List ℕ)
   pub some : i ≡ length done
   pub few : i ≤ n
@@ -39,7 +39,7 @@ pub record Lined (sheet offsets₀ offsets codes₀ codes : List ℕ) (at n from
   pub codes-front : take used codes ≡ allCodes done
   pub same : linesFrom (length codes₀) n at sheet ≡ after done (linesOf (min 4096 (length codes₀)) (n - i) used from (split 10 (drop from sheet)))
 
-pub lined-start : (sheet offsets codes : List ℕ) (at n : ℕ) → at ≤ length sheet → n < min 257 (length offsets) → Lined sheet (set offsets 0 0) (set offsets 0 0) codes codes at n at 0 0
+pub lined-start : (sheet offsets codes : List ℕ) (at n : ℕ) → at ≤ length sheet → n < min 257 (length offsets) → LinesDone sheet (set offsets 0 0) (set offsets 0 0) codes codes at n at 0 0
 unfolding offsetsFrom allCodes
 lined-start sheet offsets codes at n h room =
     record {
@@ -57,7 +57,7 @@ lined-start sheet offsets codes at n h room =
       same = let z : n - 0 ≡ n = omega arith in sym (after-none _ ∙ rw z);
     }
 
-module _ {sheet offsets₀ offsets codes₀ codes : List ℕ} {at n from used i : ℕ} (W : Lined sheet offsets₀ offsets codes₀ codes at n from used i) where
+module _ {sheet offsets₀ offsets codes₀ codes : List ℕ} {at n from used i : ℕ} (W : LinesDone sheet offsets₀ offsets codes₀ codes at n from used i) where
   -- r is the reading of the line at `from`, which left the codes `left`
   module _ (turn : i < n) {left : List ℕ} {r : Part}
       (a : r ≡ lineBy (codesAfter used) (contextLine (length codes) used from sheet))
@@ -86,7 +86,7 @@ module _ {sheet offsets₀ offsets codes₀ codes : List ℕ} {at n from used i 
       fits : v ≤ min 4096 (length codes₀)
       fits = omega (arith, one-read .2, S .room _ as-stored, W .codes-long)
 
-      pub lined-next : length left ≡ length codes → Lined sheet offsets₀ (set offsets (i + 1) v) codes₀ left at n m v (i + 1)
+      pub lined-next : length left ≡ length codes → LinesDone sheet offsets₀ (set offsets (i + 1) v) codes₀ left at n m v (i + 1)
       unfolding linesOf
       lined-next long =
           let cs = one-read .0 .got in

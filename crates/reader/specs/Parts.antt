@@ -7,9 +7,9 @@ use lib.ListN.{length, drop}
 use Rattle.site.specs.Tables.{allCodes}
 use Rattle.sheet.specs.Read.{Read, value, refused, _then_}
 use Rattle.sheet.specs.Number.{numberOf}
-use Rattle.sheet.specs.Pieces.{upTo, split}
+use Rattle.sheet.specs.Pieces.{frontTo, split}
 use Rattle.sheet.specs.Text.{kKey, contextsKey, cKey}
-use Rattle.sheet.specs.Reading.{Line, behind, codesOf, contextOf, line, linesOf}
+use Rattle.sheet.specs.Reading.{Line, behind, codesRead, contextOf, line, linesOf}
 use Rattle.reader.specs.declared.Part.{Part}
 use Rattle.reader.specs.declared.Part.the-variants as part
 use Rattle.reader.specs.declared.Reading.{Reading}
@@ -50,11 +50,11 @@ matchedBy (x ∷ key) (b ∷ l) = cond (eqb b x) (suc (matchedBy key l)) 0
 
 -- the line that begins at the place `at`, without its byte 10
 abbrev pub lineAt : ℕ → List ℕ → List ℕ
-lineAt at s = upTo 10 (drop at s)
+lineAt at s = frontTo 10 (drop at s)
 
 -- the word that begins at the index `from` of a line, without the space behind it
 abbrev pub wordAt : ℕ → List ℕ → List ℕ
-wordAt from l = upTo 32 (drop from l)
+wordAt from l = frontTo 32 (drop from l)
 
 -- the line of a key and a number that begins at the place `at`
 abbrev pub numberLine : List ℕ → ℕ → ℕ → List ℕ → Read (Line ℕ)
@@ -62,7 +62,7 @@ numberLine key room at s = line (behind key (numberOf room)) at (split 10 (drop 
 
 -- with so many code words lent and used: the codes whose words fill l
 abbrev pub wordsOf : ℕ → ℕ → ℕ → List ℕ → Read (List ℕ)
-wordsOf lent used at l = codesOf (min 4096 lent) used at (split 32 l)
+wordsOf lent used at l = codesRead (min 4096 lent) used at (split 32 l)
 
 -- the context that the text l says, behind `c=`
 abbrev pub contextIn : ℕ → ℕ → ℕ → List ℕ → Read (List ℕ)

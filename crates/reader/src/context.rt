@@ -18,7 +18,7 @@ ghost use Rattle.reader.specs.Fronts.{Stored, Held};
 fn room_after(lent: usize, used: usize) -> usize
     ensures { λ r. ⌜ r ≡ roomAfter (min 4096 lent) used ⌝ }
 {
-    if used < super::smaller(4096, lent) {
+    if used < words::smaller(4096, lent) {
         65536
     } else {
         0

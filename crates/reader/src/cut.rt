@@ -3,13 +3,13 @@
 ghost use mathlib.Core.Path.{_≡_};
 ghost use Prim.Native.Nat.{_+_, _≤_};
 ghost use lib.ListN.{length, drop};
-ghost use Rattle.sheet.specs.Pieces.{upTo};
+ghost use Rattle.sheet.specs.Pieces.{frontTo};
 ghost use Rattle.reader.specs.Parts.{lineAt};
 
 // The part from `at` up to, and without, the next byte b; or to the end.
 pub(crate) fn piece_from(text: &[u8], at: usize, b: u8) -> &[u8]
     requires { ⌜ at ≤ length (now text) ⌝ }
-    ensures { λ r. ⌜ (now r ≡ upTo b (drop at (now (text .entry)))) × (at + length (now r) ≤ length (now (text .entry))) ⌝ }
+    ensures { λ r. ⌜ (now r ≡ frontTo b (drop at (now (text .entry)))) × (at + length (now r) ≤ length (now (text .entry))) ⌝ }
 {
     let mut e = at;
     while e < text.len() {

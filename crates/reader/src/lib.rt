@@ -1,7 +1,6 @@
 // The reader of site sheets: it checks form and room, and nothing else.
 // A sheet is cut into lines and a line into words. Each is read from the left; the first refusal goes up as it is.
 ghost use mathlib.Core.Path.{_≡_};
-ghost use Prim.Native.Nat.{min};
 ghost use lib.ListN.{length};
 ghost use Rattle.sheet.specs.Reading.{readSheet};
 ghost use Rattle.reader.specs.Parts.{lineBy, itself, kLine, contextsLine, contextLines, sheetBy};
@@ -25,13 +24,6 @@ pub(crate) enum Part {
     Refused { number: u16, place: usize },
 }
 
-// The smaller of two counts.
-fn smaller(x: usize, y: usize) -> usize
-    ensures { λ r. ⌜ r ≡ min x y ⌝ }
-{
-    if x < y { x } else { y }
-}
-
 // Reads the `contexts=` line behind the `k=` line, with so many offset words lent.
 fn contexts_line(sheet: &[u8], k: Part, lent: usize) -> Part
     requires { ⌜ k ≡ lineBy itself (kLine (now sheet)) ⌝ }
@@ -40,7 +32,7 @@ fn contexts_line(sheet: &[u8], k: Part, lent: usize) -> Part
     let Part::Read { next, .. } = k else {
         return k;
     };
-    line::number_line_from(sheet, next, b"contexts=", smaller(257, lent))
+    line::number_line_from(sheet, next, b"contexts=", words::smaller(257, lent))
 }
 
 // Reads the `c=` lines behind the `contexts=` line, and then the sheet's end.

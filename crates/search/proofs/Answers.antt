@@ -5,7 +5,7 @@ use mathlib.Core.Path.{_≡_, ap}
 use Prim.Native.Nat.{ℕ}
 use native.Mathlib.Omega.{arith}
 use lib.ListN.{length}
-use Rattle.search.specs.Outcome.{numberOf, valuesOf, Tells}
+use Rattle.search.specs.Outcome.{answerNumber, answerValues, Tells}
 use Rattle.search.specs.declared.Answer.{Answer}
 use Rattle.search.specs.declared.Answer.the-variants as answer
 
@@ -15,7 +15,7 @@ module _ {n p : ℕ} where
   tells-refused (answer.Refused a b) t = let q : b ≡ p = cc (t .1) in λ i. answer.Refused (t .0 i) (q i)
 
   pub refused-tells : {r : Answer} → r ≡ answer.Refused n p → Tells r n (p ∷ [])
-  refused-tells e = (ap numberOf e, ap valuesOf e)
+  refused-tells e = (ap answerNumber e, ap answerValues e)
 
 module _ {f e m : ℕ} where
   pub tells-listed : (r : Answer) → Tells r 0 (f ∷ e ∷ m ∷ []) → r ≡ answer.Listed f e m
@@ -26,4 +26,4 @@ module _ {f e m : ℕ} where
   tells-listed (answer.Refused a b) t = absurd (omega (arith, ap length (t .1)))
 
   pub listed-tells : {r : Answer} → r ≡ answer.Listed f e m → Tells r 0 (f ∷ e ∷ m ∷ [])
-  listed-tells q = (ap numberOf q, ap valuesOf q)
+  listed-tells q = (ap answerNumber q, ap answerValues q)

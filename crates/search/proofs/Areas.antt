@@ -11,7 +11,7 @@ use Rattle.site.specs.Tables.{siteOf}
 use Rattle.words.proofs.Lists.{slice-is}
 use Rattle.tables.specs.Sound.{Sound}
 use Rattle.tables.proofs.Sound.{place-small}
-use Rattle.marks.specs.Marks.{codeWords, Small}
+use Rattle.marks.specs.Marks.{codeWords, HaveMarks}
 use Rattle.marks.proofs.Loops.{small-by}
 use Rattle.agenda.specs.Layout.{agendaRoom}
 use Rattle.search.specs.Search.{pairWords, agendaPart, marksPart, pairsPart, Remarked}
@@ -73,5 +73,5 @@ module _ (work : List ℕ) (wide : 10240 ≤ length work) where
     pairs-written = ap (take pairWords) (drop-at (take (agendaRoom + codeWords) work) _ (agendaRoom + codeWords) front-long) ∙ take-at marks _ pairWords long
 
 -- the codes of a context have marks
-pub context-small : {os cs xs : List ℕ} → Sound os cs → (i : ℕ) → i + 1 < length os → xs ≡ codesOf (siteOf os cs) i → Small xs
+pub context-small : {os cs xs : List ℕ} → Sound os cs → (i : ℕ) → i + 1 < length os → xs ≡ codesOf (siteOf os cs) i → HaveMarks xs
 context-small {os} {cs} {xs} s i h e = small-by xs (λ n l. rw e (place-small s i n h (omega (arith, l, ap length e))))

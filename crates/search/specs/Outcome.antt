@@ -15,18 +15,18 @@ use Rattle.search.specs.declared.Answer.{Answer}
 use Rattle.search.specs.declared.Answer.the-variants as answer
 
 -- the number of an answer: that of its refusal, and 0 where it lists
-abbrev pub numberOf : Answer → ℕ
-numberOf (answer.Listed found events met) = 0
-numberOf (answer.Refused number place) = number
+abbrev pub answerNumber : Answer → ℕ
+answerNumber (answer.Listed found events met) = 0
+answerNumber (answer.Refused number place) = number
 
 -- the values of an answer: found, events and met, or the place of its refusal
-abbrev pub valuesOf : Answer → List ℕ
-valuesOf (answer.Listed found events met) = found ∷ events ∷ met ∷ []
-valuesOf (answer.Refused number place) = place ∷ []
+abbrev pub answerValues : Answer → List ℕ
+answerValues (answer.Listed found events met) = found ∷ events ∷ met ∷ []
+answerValues (answer.Refused number place) = place ∷ []
 
 -- an answer tells a number and values
 abbrev pub Tells : Answer → ℕ → List ℕ → Type 0
-Tells r number values = (numberOf r ≡ number) × (valuesOf r ≡ values)
+Tells r number values = (answerNumber r ≡ number) × (answerValues r ≡ values)
 
 -- the answer, and the three buffers at exit
 pub record Outcome : Type 0 where

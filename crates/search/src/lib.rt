@@ -11,7 +11,7 @@ ghost use Rattle.site.specs.Measure.{inUse};
 ghost use Rattle.site.specs.Ratio.{reaches};
 ghost use Rattle.site.specs.Site.{codesOf, Pair as Couple};
 ghost use Rattle.site.specs.Events.{Occurs, codeAt, ceilingAt, cutOf, eventsOf, pairOf, metAfter};
-ghost use Rattle.site.specs.Tables.{siteOf};
+ghost use Rattle.site.specs.Tables.{siteAt, siteIn};
 ghost use Rattle.tables.specs.Sound.{Sound};
 ghost use Rattle.order.specs.Order.{_∈_};
 ghost use Rattle.marks.specs.Marks.{codeWords, marksOf};
@@ -146,8 +146,8 @@ fn ordered(a: Context, b: Context) -> Pair
 fn entry_of(offsets: &[u16], codes: &[u16], c: Context, d: Context, shared: u16) -> Entry
     requires { ⌜ Sound (now offsets) (now codes) ⌝ }
     requires { ⌜ (c .0 + 1 < length (now offsets)) × (d .0 + 1 < length (now offsets)) ⌝ }
-    requires { ⌜ shared ≡ sharedBy (siteOf (now offsets) (now codes)) c d ⌝ }
-    ensures { λ r. ⌜ r ≡ entryOf (siteOf (now (offsets .entry)) (now (codes .entry))) (pairOf (contextIs c) (contextIs d)) ⌝ }
+    requires { ⌜ shared ≡ sharedBy (siteIn offsets codes) c d ⌝ }
+    ensures { λ r. ⌜ r ≡ entryOf (siteAt offsets codes) (pairOf (contextIs c) (contextIs d)) ⌝ }
 {
     let xs = context(offsets, codes, c);
     let ys = context(offsets, codes, d);
@@ -166,8 +166,8 @@ fn entry_of(offsets: &[u16], codes: &[u16], c: Context, d: Context, shared: u16)
 // Whether the first code that contexts c and d share stands at place p of c: by a walk.
 fn meets_here(offsets: &[u16], codes: &[u16], c: Context, p: Place, d: Context) -> bool
     requires { ⌜ Sound (now offsets) (now codes) ⌝ }
-    requires { ⌜ Beside (siteOf (now offsets) (now codes)) c p d ⌝ }
-    ensures { λ r. ⌜ r ≡ firstHere (siteOf (now (offsets .entry)) (now (codes .entry))) c p d ⌝ }
+    requires { ⌜ Beside (siteIn offsets codes) c p d ⌝ }
+    ensures { λ r. ⌜ r ≡ firstHere (siteAt offsets codes) c p d ⌝ }
 {
     let xs = context(offsets, codes, c);
     let ys = context(offsets, codes, d);
@@ -183,7 +183,7 @@ fn lay_marks(offsets: &[u16], codes: &[u16], work: &mut [u16], c: Context)
     requires { ⌜ Sound (now offsets) (now codes) ⌝ }
     requires { ⌜ (c .0 + 1 < length (now offsets)) × (10240 ≤ length (now work)) ⌝ }
     ensures { λ _. ⌜ Remarked (now (work .entry)) (now (work .exit)) ⌝ }
-    ensures { λ _. ⌜ marksPart (now (work .exit)) ≡ marksOf codeWords (codesOf (siteOf (now (offsets .entry)) (now (codes .entry))) (c .0)) ⌝ }
+    ensures { λ _. ⌜ marksPart (now (work .exit)) ≡ marksOf codeWords (codesOf (siteAt offsets codes) (c .0)) ⌝ }
 {
     let xs = context(offsets, codes, c);
     mark(&mut work[AGENDA_END..MARKS_END], xs);
@@ -201,11 +201,11 @@ fn ready_marks(
     d: Context,
 ) -> bool
     requires { ⌜ Sound (now offsets) (now codes) ⌝ }
-    requires { ⌜ Beside (siteOf (now offsets) (now codes)) c p d ⌝ }
-    requires { ⌜ (10240 ≤ length (now work)) × Laid (siteOf (now offsets) (now codes)) c marked (now work) ⌝ }
+    requires { ⌜ Beside (siteIn offsets codes) c p d ⌝ }
+    requires { ⌜ (10240 ≤ length (now work)) × Laid (siteIn offsets codes) c marked (now work) ⌝ }
     ensures { λ r. ⌜ Remarked (now (work .entry)) (now (work .exit)) ⌝ }
-    ensures { λ r. ⌜ Laid (siteOf (now (offsets .entry)) (now (codes .entry))) c r (now (work .exit)) ⌝ }
-    ensures { λ r. ⌜ (r ≡ false → firstHere (siteOf (now (offsets .entry)) (now (codes .entry))) c p d ≡ false) ⌝ }
+    ensures { λ r. ⌜ Laid (siteAt offsets codes) c r (now (work .exit)) ⌝ }
+    ensures { λ r. ⌜ (r ≡ false → firstHere (siteAt offsets codes) c p d ≡ false) ⌝ }
 {
     if marked {
         return true;
@@ -232,10 +232,10 @@ fn shared_marked(
     d: Context,
 ) -> u16
     requires { ⌜ Sound (now offsets) (now codes) ⌝ }
-    requires { ⌜ Beside (siteOf (now offsets) (now codes)) c p d ⌝ }
-    requires { ⌜ code ≡ codeAt (siteOf (now offsets) (now codes)) (eventIs c p) ⌝ }
-    requires { ⌜ (10240 ≤ length (now work)) × (marksPart (now work) ≡ marksOf codeWords (codesOf (siteOf (now offsets) (now codes)) (c .0))) ⌝ }
-    ensures { λ r. ⌜ r ≡ sharedHere (siteOf (now (offsets .entry)) (now (codes .entry))) c p d ⌝ }
+    requires { ⌜ Beside (siteIn offsets codes) c p d ⌝ }
+    requires { ⌜ code ≡ codeAt (siteIn offsets codes) (eventIs c p) ⌝ }
+    requires { ⌜ (10240 ≤ length (now work)) × (marksPart (now work) ≡ marksOf codeWords (codesOf (siteIn offsets codes) (c .0))) ⌝ }
+    ensures { λ r. ⌜ r ≡ sharedHere (siteAt offsets codes) c p d ⌝ }
 {
     let ys = context(offsets, codes, d);
     let marks = &work[AGENDA_END..MARKS_END];
@@ -261,7 +261,7 @@ fn met_before(offsets: &[u16], codes: &[u16], work: &[u16], c: Context, d: Conte
     requires { ⌜ Sound (now offsets) (now codes) ⌝ }
     requires { ⌜ (c .0 + 1 < length (now offsets)) × (d .0 + 1 < length (now offsets)) ⌝ }
     requires { ⌜ 10240 ≤ length (now work) ⌝ }
-    ensures { λ r. ⌜ (r ≡ true → (pairs : List Couple) → Proper (siteOf (now (offsets .entry)) (now (codes .entry))) pairs → Seen (siteOf (now (offsets .entry)) (now (codes .entry))) pairs (now (work .entry)) → pairOf (contextIs c) (contextIs d) ∈ pairs) ⌝ }
+    ensures { λ r. ⌜ (r ≡ true → (pairs : List Couple) → Proper (siteAt offsets codes) pairs → Seen (siteAt offsets codes) pairs (now (work .entry)) → pairOf (contextIs c) (contextIs d) ∈ pairs) ⌝ }
 {
     if offsets.len() > MOST + 1 {
         return false;
@@ -278,7 +278,7 @@ fn note_pair(offsets: &[u16], codes: &[u16], work: &mut [u16], c: Context, d: Co
     requires { ⌜ 10240 ≤ length (now work) ⌝ }
     ensures { λ _. ⌜ agendaPart (now (work .exit)) ≡ agendaPart (now (work .entry)) ⌝ }
     ensures { λ _. ⌜ marksPart (now (work .exit)) ≡ marksPart (now (work .entry)) ⌝ }
-    ensures { λ _. ⌜ ((pairs : List Couple) → Seen (siteOf (now (offsets .entry)) (now (codes .entry))) pairs (now (work .entry)) → Seen (siteOf (now (offsets .entry)) (now (codes .entry))) (pairs ++ pairOf (contextIs c) (contextIs d) ∷ []) (now (work .exit))) ⌝ }
+    ensures { λ _. ⌜ ((pairs : List Couple) → Seen (siteAt offsets codes) pairs (now (work .entry)) → Seen (siteAt offsets codes) (pairs ++ pairOf (contextIs c) (contextIs d) ∷ []) (now (work .exit))) ⌝ }
 {
     if offsets.len() <= MOST + 1 {
         let x = pair_number(c, d);
@@ -301,15 +301,15 @@ fn step(
     d: Context,
 ) -> Progress
     requires { ⌜ Sound (now offsets) (now codes) ⌝ }
-    requires { ⌜ Beside (siteOf (now offsets) (now codes)) c p d ⌝ }
-    requires { ⌜ code ≡ codeAt (siteOf (now offsets) (now codes)) (eventIs c p) ⌝ }
+    requires { ⌜ Beside (siteIn offsets codes) c p d ⌝ }
+    requires { ⌜ code ≡ codeAt (siteIn offsets codes) (eventIs c p) ⌝ }
     requires { ⌜ (k ≤ 64) × (width * k ≤ length (now list)) ⌝ }
     requires { ⌜ (progress .counts .found ≤ k) × (progress .counts .met ≤ 16777216) ⌝ }
     requires { ⌜ Ordered (now list) (progress .counts .found) ⌝ }
-    requires { ⌜ (10240 ≤ length (now work)) × Laid (siteOf (now offsets) (now codes)) c (progress .marked) (now work) ⌝ }
-    ensures { λ r. ⌜ Meets (siteOf (now (offsets .entry)) (now (codes .entry))) k (metWith (siteOf (now (offsets .entry)) (now (codes .entry))) c p d) (now (list .entry)) (now (work .entry)) (now (trail .entry)) (progress .counts) (now (list .exit)) (now (work .exit)) (now (trail .exit)) (r .counts) ⌝ }
+    requires { ⌜ (10240 ≤ length (now work)) × Laid (siteIn offsets codes) c (progress .marked) (now work) ⌝ }
+    ensures { λ r. ⌜ Meets (siteAt offsets codes) k (metWith (siteAt offsets codes) c p d) (now (list .entry)) (now (work .entry)) (now (trail .entry)) (progress .counts) (now (list .exit)) (now (work .exit)) (now (trail .exit)) (r .counts) ⌝ }
     ensures { λ r. ⌜ agendaPart (now (work .exit)) ≡ agendaPart (now (work .entry)) ⌝ }
-    ensures { λ r. ⌜ Laid (siteOf (now (offsets .entry)) (now (codes .entry))) c (r .marked) (now (work .exit)) ⌝ }
+    ensures { λ r. ⌜ Laid (siteAt offsets codes) c (r .marked) (now (work .exit)) ⌝ }
 {
     if met_before(offsets, codes, work, c, d) {
         return progress;
@@ -342,9 +342,9 @@ fn earlier_at(
     n: usize,
 ) -> Posted
     requires { ⌜ Sound (now offsets) (now codes) ⌝ }
-    requires { ⌜ (10240 ≤ length (now work)) × Agenda (siteOf (now offsets) (now codes)) events (agendaPart (now work)) ⌝ }
+    requires { ⌜ (10240 ≤ length (now work)) × Agenda (siteIn offsets codes) events (agendaPart (now work)) ⌝ }
     requires { ⌜ code < 4096 ⌝ }
-    ensures { λ r. ⌜ r ≡ postedIs (getElem? (postedOf (siteOf (now (offsets .entry)) (now (codes .entry))) events code) n) ⌝ }
+    ensures { λ r. ⌜ r ≡ postedIs (getElem? (postedOf (siteAt offsets codes) events code) n) ⌝ }
 {
     let part = &work[..AGENDA_END];
     posted_at(offsets, codes, part, events, code, n)
@@ -360,10 +360,10 @@ fn mark_short(
     code: u16,
 ) -> bool
     requires { ⌜ Sound (now offsets) (now codes) ⌝ }
-    requires { ⌜ (10240 ≤ length (now work)) × Agenda (siteOf (now offsets) (now codes)) events (agendaPart (now work)) ⌝ }
+    requires { ⌜ (10240 ≤ length (now work)) × Agenda (siteIn offsets codes) events (agendaPart (now work)) ⌝ }
     requires { ⌜ (c .0 + 1 < length (now offsets)) × (code < 4096) ⌝ }
     ensures { λ r. ⌜ Remarked (now (work .entry)) (now (work .exit)) ⌝ }
-    ensures { λ r. ⌜ Laid (siteOf (now (offsets .entry)) (now (codes .entry))) c r (now (work .exit)) ⌝ }
+    ensures { λ r. ⌜ Laid (siteAt offsets codes) c r (now (work .exit)) ⌝ }
 {
     if offsets.len() <= MOST + 1 {
         return false;
@@ -394,13 +394,13 @@ fn turn(
     p: Place,
 ) -> Turned
     requires { ⌜ Sound (now offsets) (now codes) ⌝ }
-    requires { ⌜ (10240 ≤ length (now work)) × Agenda (siteOf (now offsets) (now codes)) events (agendaPart (now work)) ⌝ }
-    requires { ⌜ nextIs (getElem? (eventsOf inUse (siteOf (now offsets) (now codes))) events) ≡ At c p ⌝ }
+    requires { ⌜ (10240 ≤ length (now work)) × Agenda (siteIn offsets codes) events (agendaPart (now work)) ⌝ }
+    requires { ⌜ nextIs (getElem? (eventsOf inUse (siteIn offsets codes)) events) ≡ At c p ⌝ }
     requires { ⌜ (k ≤ 64) × (width * k ≤ length (now list)) ⌝ }
-    requires { ⌜ After (siteOf (now offsets) (now codes)) k (metAfter inUse (siteOf (now offsets) (now codes)) events) (now list) (now work) (now trail) counts ⌝ }
-    ensures { λ r. ⌜ After (siteOf (now (offsets .entry)) (now (codes .entry))) k (metAfter inUse (siteOf (now (offsets .entry)) (now (codes .entry))) (events + 1)) (now (list .exit)) (now (work .exit)) (now (trail .exit)) (r .counts) ⌝ }
+    requires { ⌜ After (siteIn offsets codes) k (metAfter inUse (siteIn offsets codes) events) (now list) (now work) (now trail) counts ⌝ }
+    ensures { λ r. ⌜ After (siteAt offsets codes) k (metAfter inUse (siteAt offsets codes) (events + 1)) (now (list .exit)) (now (work .exit)) (now (trail .exit)) (r .counts) ⌝ }
     ensures { λ r. ⌜ agendaPart (now (work .exit)) ≡ agendaPart (now (work .entry)) ⌝ }
-    ensures { λ r. ⌜ r .earlier ≡ length (postedOf (siteOf (now (offsets .entry)) (now (codes .entry))) events (codeAt (siteOf (now (offsets .entry)) (now (codes .entry))) (eventIs c p))) ⌝ }
+    ensures { λ r. ⌜ r .earlier ≡ length (postedOf (siteAt offsets codes) events (codeAt (siteAt offsets codes) (eventIs c p))) ⌝ }
 {
     let part = context(offsets, codes, c);
     let place = p.0 as usize;
@@ -433,11 +433,11 @@ fn stops(
     c: Context,
     p: Place,
 ) -> bool
-    requires { ⌜ Sound (now offsets) (now codes) × Occurs (siteOf (now offsets) (now codes)) (eventIs c p) ⌝ }
+    requires { ⌜ Sound (now offsets) (now codes) × Occurs (siteIn offsets codes) (eventIs c p) ⌝ }
     requires { ⌜ (0 < k) × (k ≤ 64) ⌝ }
     requires { ⌜ width * k ≤ length (now list) ⌝ }
-    ensures { λ r. ⌜ ((pairs : List Couple) → Proper (siteOf (now (offsets .entry)) (now (codes .entry))) pairs → Listed (siteOf (now (offsets .entry)) (now (codes .entry))) k pairs (now (list .entry)) found
-        → r ≡ not (reaches (cutOf inUse (siteOf (now (offsets .entry)) (now (codes .entry))) k pairs) (ceilingAt inUse (siteOf (now (offsets .entry)) (now (codes .entry))) (eventIs c p)))) ⌝ }
+    ensures { λ r. ⌜ ((pairs : List Couple) → Proper (siteAt offsets codes) pairs → Listed (siteAt offsets codes) k pairs (now (list .entry)) found
+        → r ≡ not (reaches (cutOf inUse (siteAt offsets codes) k pairs) (ceilingAt inUse (siteAt offsets codes) (eventIs c p)))) ⌝ }
 {
     let part = context(offsets, codes, c);
     let size = part.len();
@@ -452,8 +452,8 @@ fn stops(
 // The next event, from the agenda's part of the work area.
 fn next_at(offsets: &[u16], codes: &[u16], work: &[u16], events: usize) -> Next
     requires { ⌜ Sound (now offsets) (now codes) ⌝ }
-    requires { ⌜ (10240 ≤ length (now work)) × Agenda (siteOf (now offsets) (now codes)) events (agendaPart (now work)) ⌝ }
-    ensures { λ r. ⌜ r ≡ nextIs (getElem? (eventsOf inUse (siteOf (now (offsets .entry)) (now (codes .entry)))) events) ⌝ }
+    requires { ⌜ (10240 ≤ length (now work)) × Agenda (siteIn offsets codes) events (agendaPart (now work)) ⌝ }
+    ensures { λ r. ⌜ r ≡ nextIs (getElem? (eventsOf inUse (siteAt offsets codes)) events) ⌝ }
 {
     let part = &work[..AGENDA_END];
     next_event(offsets, codes, part, events)
@@ -470,11 +470,11 @@ fn event_due(
     events: usize,
 ) -> Next
     requires { ⌜ Sound (now offsets) (now codes) ⌝ }
-    requires { ⌜ (10240 ≤ length (now work)) × Agenda (siteOf (now offsets) (now codes)) events (agendaPart (now work)) ⌝ }
+    requires { ⌜ (10240 ≤ length (now work)) × Agenda (siteIn offsets codes) events (agendaPart (now work)) ⌝ }
     requires { ⌜ (0 < k) × (k ≤ 64) ⌝ }
     requires { ⌜ width * k ≤ length (now list) ⌝ }
-    requires { ⌜ Listed (siteOf (now offsets) (now codes)) k (metAfter inUse (siteOf (now offsets) (now codes)) events) (now list) found ⌝ }
-    ensures { λ r. ⌜ r ≡ nextIs (dueOf (siteOf (now (offsets .entry)) (now (codes .entry))) k events) ⌝ }
+    requires { ⌜ Listed (siteIn offsets codes) k (metAfter inUse (siteIn offsets codes) events) (now list) found ⌝ }
+    ensures { λ r. ⌜ r ≡ nextIs (dueOf (siteAt offsets codes) k events) ⌝ }
 {
     let next = next_at(offsets, codes, work, events);
     let Next::At(c, p) = next else {
@@ -497,10 +497,10 @@ fn record_event(
     n: usize,
 )
     requires { ⌜ Sound (now offsets) (now codes) ⌝ }
-    requires { ⌜ (10240 ≤ length (now work)) × Agenda (siteOf (now offsets) (now codes)) events (agendaPart (now work)) ⌝ }
-    requires { ⌜ nextIs (getElem? (eventsOf inUse (siteOf (now offsets) (now codes))) events) ≡ At c p ⌝ }
-    requires { ⌜ n ≡ length (postedOf (siteOf (now offsets) (now codes)) events (codeAt (siteOf (now offsets) (now codes)) (eventIs c p))) ⌝ }
-    ensures { λ _. ⌜ Agenda (siteOf (now (offsets .entry)) (now (codes .entry))) (events + 1) (agendaPart (now (work .exit))) ⌝ }
+    requires { ⌜ (10240 ≤ length (now work)) × Agenda (siteIn offsets codes) events (agendaPart (now work)) ⌝ }
+    requires { ⌜ nextIs (getElem? (eventsOf inUse (siteIn offsets codes)) events) ≡ At c p ⌝ }
+    requires { ⌜ n ≡ length (postedOf (siteIn offsets codes) events (codeAt (siteIn offsets codes) (eventIs c p))) ⌝ }
+    ensures { λ _. ⌜ Agenda (siteAt offsets codes) (events + 1) (agendaPart (now (work .exit))) ⌝ }
     ensures { λ _. ⌜ pairsPart (now (work .exit)) ≡ pairsPart (now (work .entry)) ⌝ }
 {
     note_event(offsets, codes, &mut work[..AGENDA_END], events, c, p, n);
@@ -525,7 +525,7 @@ fn clear_pairs(work: &mut [u16])
 fn lay_agenda(offsets: &[u16], codes: &[u16], work: &mut [u16])
     requires { ⌜ Sound (now offsets) (now codes) ⌝ }
     requires { ⌜ 10240 ≤ length (now work) ⌝ }
-    ensures { λ _. ⌜ Agenda (siteOf (now (offsets .entry)) (now (codes .entry))) 0 (agendaPart (now (work .exit))) ⌝ }
+    ensures { λ _. ⌜ Agenda (siteAt offsets codes) 0 (agendaPart (now (work .exit))) ⌝ }
     ensures { λ _. ⌜ pairsPart (now (work .exit)) ≡ pairsPart (now (work .entry)) ⌝ }
 {
     prepare(offsets, codes, &mut work[..AGENDA_END]);
@@ -535,7 +535,7 @@ fn lay_agenda(offsets: &[u16], codes: &[u16], work: &mut [u16])
 fn lay_work(offsets: &[u16], codes: &[u16], work: &mut [u16])
     requires { ⌜ Sound (now offsets) (now codes) ⌝ }
     requires { ⌜ 10240 ≤ length (now work) ⌝ }
-    ensures { λ _. ⌜ Agenda (siteOf (now (offsets .entry)) (now (codes .entry))) 0 (agendaPart (now (work .exit))) ⌝ }
+    ensures { λ _. ⌜ Agenda (siteAt offsets codes) 0 (agendaPart (now (work .exit))) ⌝ }
     ensures { λ _. ⌜ pairsPart (now (work .exit)) ≡ marksOf pairWords [] ⌝ }
 {
     clear_pairs(work);
@@ -556,12 +556,12 @@ fn do_event(
     p: Place,
 ) -> Counts
     requires { ⌜ Sound (now offsets) (now codes) ⌝ }
-    requires { ⌜ (10240 ≤ length (now work)) × Agenda (siteOf (now offsets) (now codes)) events (agendaPart (now work)) ⌝ }
-    requires { ⌜ nextIs (getElem? (eventsOf inUse (siteOf (now offsets) (now codes))) events) ≡ At c p ⌝ }
+    requires { ⌜ (10240 ≤ length (now work)) × Agenda (siteIn offsets codes) events (agendaPart (now work)) ⌝ }
+    requires { ⌜ nextIs (getElem? (eventsOf inUse (siteIn offsets codes)) events) ≡ At c p ⌝ }
     requires { ⌜ (k ≤ 64) × (width * k ≤ length (now list)) ⌝ }
-    requires { ⌜ After (siteOf (now offsets) (now codes)) k (metAfter inUse (siteOf (now offsets) (now codes)) events) (now list) (now work) (now trail) counts ⌝ }
-    ensures { λ r. ⌜ After (siteOf (now (offsets .entry)) (now (codes .entry))) k (metAfter inUse (siteOf (now (offsets .entry)) (now (codes .entry))) (events + 1)) (now (list .exit)) (now (work .exit)) (now (trail .exit)) r ⌝ }
-    ensures { λ r. ⌜ Agenda (siteOf (now (offsets .entry)) (now (codes .entry))) (events + 1) (agendaPart (now (work .exit))) ⌝ }
+    requires { ⌜ After (siteIn offsets codes) k (metAfter inUse (siteIn offsets codes) events) (now list) (now work) (now trail) counts ⌝ }
+    ensures { λ r. ⌜ After (siteAt offsets codes) k (metAfter inUse (siteAt offsets codes) (events + 1)) (now (list .exit)) (now (work .exit)) (now (trail .exit)) r ⌝ }
+    ensures { λ r. ⌜ Agenda (siteAt offsets codes) (events + 1) (agendaPart (now (work .exit))) ⌝ }
 {
     let turned = turn(k, offsets, codes, list, work, trail, counts, events, c, p);
     let earlier = turned.earlier;
@@ -582,7 +582,7 @@ fn run(
     requires { ⌜ (0 < k) × (k ≤ 64) ⌝ }
     requires { ⌜ (width * k ≤ length (now list)) × (10240 ≤ length (now work)) ⌝ }
     requires { ⌜ now list ≡ zeros (now list) ⌝ }
-    ensures { λ r. ⌜ Searched (siteOf (now (offsets .entry)) (now (codes .entry))) k (now (list .exit)) (now (trail .exit)) r ⌝ }
+    ensures { λ r. ⌜ Searched (siteAt offsets codes) k (now (list .exit)) (now (trail .exit)) r ⌝ }
 {
     lay_work(offsets, codes, work);
     let mut counts = Counts { found: 0, met: 0 };
@@ -633,7 +633,7 @@ pub fn search(
     requires { ⌜ Sound (now offsets) (now codes) ⌝ }
     requires { ⌜ (0 < k) × (k ≤ 64) ⌝ }
     requires { ⌜ (width * k ≤ length (now list)) × (10240 ≤ length (now work)) ⌝ }
-    ensures { λ r. ⌜ outcome r (now (list .exit)) (now (work .exit)) (now (trail .exit)) ≡ searchOf k (siteOf (now (offsets .entry)) (now (codes .entry))) (now (list .entry)) (now (work .entry)) (now (trail .entry)) ⌝ }
+    ensures { λ r. ⌜ outcome r (now (list .exit)) (now (work .exit)) (now (trail .exit)) ≡ searchOf k (siteAt offsets codes) (now (list .entry)) (now (work .entry)) (now (trail .entry)) ⌝ }
 {
     clear(list);
     let told = run(k, offsets, codes, list, work, trail);

@@ -9,7 +9,7 @@ use lib.Seq.{take-length}
 use Rattle.sheet.specs.Read.{Read, value, refused}
 use Rattle.sheet.specs.Number.{digitsOf, valueOf, digitsIn, numberOf}
 use Rattle.sheet.specs.Text.{codesText}
-use Rattle.sheet.specs.Reading.{roomAfter, codesOf, contextOf}
+use Rattle.sheet.specs.Reading.{roomAfter, codesRead, contextOf}
 use Rattle.sheet.specs.Pieces.{split}
 use Rattle.sheet.specs.Meaning.{Alike}
 use Rattle.sheet.proofs.Alike.{alike-none, alike-left, alike-before, alike-cons}
@@ -51,10 +51,10 @@ number-begun room at w {n} {p} e =
     none q = begun-none digitsOf (numberOf room) at w 0 q (number-from room at (digitsOf 0))
 
 -- the codes of a line's text are read from its words
-pub context-words : (most used at : ℕ) (cs : List ℕ) → contextOf most used at (codesText cs) ≡ codesOf most used at (map digitsOf cs)
-unfolding contextOf codesOf codesText
+pub context-words : (most used at : ℕ) (cs : List ℕ) → contextOf most used at (codesText cs) ≡ codesRead most used at (map digitsOf cs)
+unfolding contextOf codesRead codesText
 context-words most used at [] = refl
-context-words most used at (n ∷ ns) = context-some most used at (codesText (n ∷ ns)) (codes-length n ns) ∙ ap (codesOf most used at) (words-of n ns)
+context-words most used at (n ∷ ns) = context-some most used at (codesText (n ∷ ns)) (codes-length n ns) ∙ ap (codesRead most used at) (words-of n ns)
 
 codes-one : (n : ℕ) → codesText (n ∷ []) ≡ digitsOf n
 unfolding codesText
@@ -76,14 +76,14 @@ unfolding joined
 joined-more b w [] h = absurd (omega arith)
 joined-more b w (u ∷ us) h = refl
 
-pub codes-some : (most used at : ℕ) (ws : List (List ℕ)) {n p : ℕ} → codesOf most used at ws ≡ refused n p → 0 < length ws
-unfolding codesOf
+pub codes-some : (most used at : ℕ) (ws : List (List ℕ)) {n p : ℕ} → codesRead most used at ws ≡ refused n p → 0 < length ws
+unfolding codesRead
 codes-some most used at [] e = no-value (sym e)
 codes-some most used at (w ∷ ws) e = omega arith
 
-codes-begun : (most used at : ℕ) (ws : List (List ℕ)) {n p : ℕ} → codesOf most used at ws ≡ refused n p
+codes-begun : (most used at : ℕ) (ws : List (List ℕ)) {n p : ℕ} → codesRead most used at ws ≡ refused n p
     → (b : Begun codesText (contextOf most used) at (joined 32 ws) p) × (0 < length (b .v))
-unfolding codesOf
+unfolding codesRead
 codes-begun most used at [] e = no-value (sym e)
 codes-begun most used at (w ∷ ws) {n} {p} e =
     then-refused (numberOf (roomAfter most used) at w) _ e
@@ -97,18 +97,18 @@ codes-begun most used at (w ∷ ws) {n} {p} e =
       },
       omega arith,
     ))
-    (λ a f g. then-refused (codesOf most (suc used) (at + length w + 1) ws) _ g
+    (λ a f g. then-refused (codesRead most (suc used) (at + length w + 1) ws) _ g
     (λ h. let i = codes-begun most (suc used) (at + length w + 1) ws h in
     let b = i .0 in
     let d = number-read _ at w f in
     let r : numberOf (roomAfter most used) at (digitsOf a) ≡ value a = rw (← d) f in
-    let t : Late p (codesOf most (suc used) (at + length (digitsOf a) + 1) (map digitsOf (b .v))) = rw (← d, ← context-words most (suc used) (at + length w + 1) (b .v)) (b .late) in (
+    let t : Late p (codesRead most (suc used) (at + length (digitsOf a) + 1) (map digitsOf (b .v))) = rw (← d, ← context-words most (suc used) (at + length w + 1) (b .v)) (b .late) in (
       record {
         v = a ∷ b .v;
         m = length w + suc (b .m);
         place = omega (arith, b .place);
         alike = rw (joined-more 32 w ws (codes-some _ _ _ ws h), codes-more a (b .v) (i .1), ← d) (alike-before w (alike-cons refl (b .alike)));
-        late = rw (context-words, r) (late-then (codesOf most (suc used) (at + length (digitsOf a) + 1) (map digitsOf (b .v))) _ t (λ c q x y z. no-value (sym z)));
+        late = rw (context-words, r) (late-then (codesRead most (suc used) (at + length (digitsOf a) + 1) (map digitsOf (b .v))) _ t (λ c q x y z. no-value (sym z)));
       },
       omega arith,
     ))

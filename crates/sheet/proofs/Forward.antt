@@ -11,7 +11,7 @@ use Rattle.sheet.specs.Read.{refused}
 use Rattle.sheet.specs.Number.{digitsOf, digitsIn, numberOf}
 use Rattle.sheet.specs.Pieces.{split, onFirst}
 use Rattle.sheet.specs.Text.{cKey, codesText, lineText, linesText}
-use Rattle.sheet.specs.Reading.{behind, roomAfter, codesOf, contextOf, line, linesOf}
+use Rattle.sheet.specs.Reading.{behind, roomAfter, codesRead, contextOf, line, linesOf}
 use Rattle.sheet.specs.Fits.{Words, SiteWords}
 use Rattle.sheet.specs.Meaning.{spaced}
 use Rattle.sheet.proofs.Numbers.{in-within}
@@ -46,8 +46,8 @@ spaced-free [] = tt
 spaced-free (n ∷ ns) = free-append 10 (digitsOf n) (32 ∷ spaced ns) (digits-free 10 n (omega arith)) (λ e. omega arith, spaced-free ns)
 
 codes-refuse : (most used at : ℕ) {n : ℕ} (cs r : List ℕ) → Words cs → used + length cs ≤ most → Over (roomAfter most (used + length cs)) n (digitsIn r)
-    → codesOf most used at (split 32 (spaced cs ++ r)) ≡ refused n (at + length (spaced cs))
-unfolding codesOf spaced
+    → codesRead most used at (split 32 (spaced cs ++ r)) ≡ refused n (at + length (spaced cs))
+unfolding codesRead spaced
 codes-refuse most used at [] r w h o =
     let x = split-some 32 r in
     rw (x .2, number-refuses (roomAfter most used) at (x .0) (rw (first-digits 32 r (x .0) (x .1) (omega arith) (x .2), add-zero) at o), add-zero)

@@ -9,7 +9,7 @@ use lib.Seq.{drop-drop}
 use Rattle.words.proofs.Split.{by-eq, by-le}
 use Rattle.sheet.specs.Read.{Read, value, refused, _then_}
 use Rattle.sheet.specs.Number.{valueOf, digitsIn, numberOf}
-use Rattle.sheet.specs.Pieces.{upTo, split, onFirst}
+use Rattle.sheet.specs.Pieces.{frontTo, split, onFirst}
 use Rattle.sheet.specs.Reading.{behind, roomAfter, contextOf, line, nothing, linesOf}
 use Rattle.sheet.specs.Text.{cKey}
 use Rattle.sheet.proofs.Pieces.{split-last, split-more, split-some}
@@ -19,7 +19,7 @@ pub no-value : {A : Type 0} {C : Type 0} {a : A} {n p : ℕ} → refused n p ≡
 no-value e = let z : _≡_ {A = ℕ} 0 1 = cc in absurd (omega arith)
 
 -- w is the piece of s from `at` on
-module _ (b : ℕ) (s : List ℕ) (at : ℕ) {w : List ℕ} (q : w ≡ upTo b (drop at s)) where
+module _ (b : ℕ) (s : List ℕ) (at : ℕ) {w : List ℕ} (q : w ≡ frontTo b (drop at s)) where
   pub piece-last : at + length w ≡ length s → split b (drop at s) ≡ w ∷ []
   piece-last h = split-last b (drop at s) (rw (← q) (omega (arith, length-drop at s))) ∙ rw (← q)
 
@@ -34,7 +34,7 @@ module _ (b : ℕ) (s : List ℕ) (at : ℕ) {w : List ℕ} (q : w ≡ upTo b (d
       (λ f. ([], piece-last (omega arith)))
       (λ f. (split b (drop (at + length w + 1) s), piece-more f))
 
-module _ {A : Type 0} (read : ℕ → List ℕ → Read A) (s : List ℕ) (at : ℕ) {l : List ℕ} (q : l ≡ upTo 10 (drop at s)) where
+module _ {A : Type 0} (read : ℕ → List ℕ → Read A) (s : List ℕ) (at : ℕ) {l : List ℕ} (q : l ≡ frontTo 10 (drop at s)) where
   pub line-refused : {n p : ℕ} → read at l ≡ refused n p → at + length l ≤ length s → line read at (split 10 (drop at s)) ≡ refused n p
   unfolding line
   line-refused e h =
@@ -53,11 +53,11 @@ module _ {A : Type 0} (read : ℕ → List ℕ → Read A) (s : List ℕ) (at : 
     line-more h = let m = split-some 10 (drop (at + length l + 1) s) in rw (piece-more 10 s at q h, m .2, e)
 
 -- what is read is at most 65,535, and there was room for it
-pub record Small (room v : ℕ) : Type 0 where
+pub record ReadSmall (room v : ℕ) : Type 0 where
   pub few : v ≤ 65535
   pub fits : v < room
 
-pub number-small : (room at : ℕ) (w : List ℕ) {v : ℕ} → numberOf room at w ≡ value v → Small room v
+pub number-small : (room at : ℕ) (w : List ℕ) {v : ℕ} → numberOf room at w ≡ value v → ReadSmall room v
 unfolding numberOf
 number-small room at w {v} e =
     by-eq (length (digitsIn w)) 0 (λ z. no-value (rw (eq-eqb _ _ z) at e)) (λ z.
@@ -71,7 +71,7 @@ number-small room at w {v} e =
 pub room-left : (most used v : ℕ) → v < roomAfter most used → used < most
 room-left most used v h = by-le most used (λ l. absurd (omega (arith, rw (le-ltb used most l) at h))) (λ l. l)
 
-pub behind-small : (room : ℕ) (key : List ℕ) (at : ℕ) (l : List ℕ) {v : ℕ} → behind key (numberOf room) at l ≡ value v → Small room v
+pub behind-small : (room : ℕ) (key : List ℕ) (at : ℕ) (l : List ℕ) {v : ℕ} → behind key (numberOf room) at l ≡ value v → ReadSmall room v
 unfolding behind
 behind-small room [] at l e = number-small room at l e
 behind-small room (x ∷ key) at [] e = no-value e

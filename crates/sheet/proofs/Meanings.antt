@@ -15,8 +15,8 @@ use Rattle.sheet.proofs.Over.{Over, above, no-room}
 use Rattle.sheet.proofs.Refusal.{same-refusal}
 use Rattle.sheet.proofs.Exactly.{refuses}
 use Rattle.sheet.proofs.NinePlace.{nine-means, begins-sooner, nine-once, earliest}
-use Rattle.sheet.proofs.Accepted.{accepted}
-use Rattle.sheet.proofs.NumberPlace.{roomAt, Found, found}
+use Rattle.sheet.proofs.Accepted.{accepted-text}
+use Rattle.sheet.proofs.NumberPlace.{roomAt, NumberFound, found}
 
 -- a number that is a word, and not below its room
 cause : (offsets codes v : ℕ) (x : Which) → InRange offsets codes x → v ≤ 65535 → roomAt offsets codes x ≤ v → NoRoom offsets codes v x
@@ -36,10 +36,10 @@ room-cause offsets codes v _ (wide k h) = omega arith
 room-cause offsets codes v _ (full k n site cs h) = rw (le-ltb (length (allCodes site) + length cs) (min 4096 codes) (omega arith)) (omega arith)
 
 module _ (offsets codes : ℕ) (s : List ℕ) where
-  stands : {n p : ℕ} (f : Found offsets codes n p s) → 0 < length (digitsIn (f .rest)) → NumberAt offsets codes (f .x) s p (valueOf (digitsIn (f .rest)))
+  stands : {n p : ℕ} (f : NumberFound offsets codes n p s) → 0 < length (digitsIn (f .rest)) → NumberAt offsets codes (f .x) s p (valueOf (digitsIn (f .rest)))
   stands f d = record { rest = f .rest; whole = f .whole; place = f .place; before = f .before; digit = d; says = refl }
 
-  judged : {n p : ℕ} (f : Found offsets codes n p s) → Over (roomAt offsets codes (f .x)) n (digitsIn (f .rest)) → Means offsets codes s n p
+  judged : {n p : ℕ} (f : NumberFound offsets codes n p s) → Over (roomAt offsets codes (f .x)) n (digitsIn (f .rest)) → Means offsets codes s n p
   judged f (above q d a) = ten q (record { x = f .x; v = valueOf (digitsIn (f .rest)); number = stands f d; above = a })
   judged f (no-room q d w h) =
       eleven q (record { x = f .x; v = valueOf (digitsIn (f .rest)); number = stands f d; word = w; cause = cause offsets codes (valueOf (digitsIn (f .rest))) (f .x) (f .before) w h })
@@ -78,7 +78,7 @@ module _ (offsets codes : ℕ) (s : List ℕ) where
       judge {n} {q} e (eleven z t) = by-le q p (λ h. absurd (b .no-eleven q h t)) (λ h. absurd (later e h))
 
       answered : (x : Read Sheet) → readSheet offsets codes s ≡ x → readSheet offsets codes s ≡ refused 9 p
-      answered (value y) e = absurd (a .unfinished (y .k) (y .site) (accepted offsets codes s y e .0))
+      answered (value y) e = absurd (a .unfinished (y .k) (y .site) (accepted-text offsets codes s y e .0))
       answered (refused n q) e = judge e (refusal-means e)
 
   -- and where that is what n means, refused n p is the answer

@@ -11,7 +11,7 @@ use Rattle.sheet.specs.Read.{Read, value, refused, _then_}
 use Rattle.sheet.specs.Number.{digitsOf, numberOf}
 use Rattle.sheet.specs.Pieces.{split}
 use Rattle.sheet.specs.Text.{kKey, contextsKey, cKey, codesText, lineText, linesText, sheetText}
-use Rattle.sheet.specs.Reading.{behind, roomAfter, codesOf, contextOf, line, nothing, linesOf, readSheet}
+use Rattle.sheet.specs.Reading.{behind, roomAfter, codesRead, contextOf, line, nothing, linesOf, readSheet}
 use Rattle.sheet.proofs.Pieces.{split-some}
 use Rattle.sheet.proofs.Numerals.{good, in-digits}
 use Rattle.sheet.proofs.ReadsBack.{Free, words-of, context-some, codes-length, codes-free, behind-key, cut-line, free-append, digits-free, free-key}
@@ -40,8 +40,8 @@ number-judged room at n =
     (λ k. rw (in-digits n, g .says, ne-eqb (length (digitsOf n)) 0 z, le-ltb 65535 n h, lt-ltb n room k, le-ltb (length (digitsOf n)) (length (digitsOf n)) (le-refl _)) well))
     (λ h. rw (in-digits n, g .says, ne-eqb (length (digitsOf n)) 0 z, lt-ltb 65535 n h) (other 10 at (λ e. omega arith)))
 
-codes-judged : (most used at : ℕ) (cs : List ℕ) → Judged cs (codesOf most used at (map digitsOf cs))
-unfolding codesOf
+codes-judged : (most used at : ℕ) (cs : List ℕ) → Judged cs (codesRead most used at (map digitsOf cs))
+unfolding codesRead
 codes-judged most used at [] = well
 codes-judged most used at (n ∷ ns) =
     judged-then _ (number-judged (roomAfter most used) at n)

@@ -10,7 +10,7 @@ use Rattle.sheet.specs.Number.{digitsOf, numberOf}
 use Rattle.sheet.specs.Pieces.{split}
 use Rattle.sheet.specs.Text.{kKey, contextsKey, cKey, codesText, lineText, linesText, sheetText}
 use Rattle.sheet.specs.Reading.{behind, nothing, line, linesOf, Sheet, readSheet}
-use Rattle.sheet.specs.Meaning.{Alike, Begins, Earliest, NineAt}
+use Rattle.sheet.specs.Meaning.{Alike, BeginsSheet, Earliest, NineAt}
 use Rattle.sheet.proofs.Alike.{alike-none, alike-is, alike-sooner, Agree, inside, beyond, agree-split}
 use Rattle.sheet.proofs.Lines.{no-value}
 use Rattle.sheet.proofs.Refusal.{then-refused, late-then}
@@ -132,7 +132,7 @@ module _ (offsets codes : ℕ) where
     unfinished = nine-no-sheet offsets codes p s e;
   }
 
-pub begins-sooner : {m n : ℕ} {s : List ℕ} → n ≤ m → Begins m s → Begins n s
+pub begins-sooner : {m n : ℕ} {s : List ℕ} → n ≤ m → BeginsSheet m s → BeginsSheet n s
 begins-sooner h b = record { k = b .k; site = b .site; alike = alike-sooner h (b .alike) }
 
 -- a sheet has one such place at most

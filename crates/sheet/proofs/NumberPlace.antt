@@ -12,7 +12,7 @@ use Rattle.sheet.specs.Text.{kKey, contextsKey, cKey, codesText, lineTex
 use Rattle.sheet.specs.Reading.{behind, roomAfter, Line, line, linesOf, readSheet}
 use Rattle.sheet.specs.Meaning.{Which, of-k, of-contexts, of-code, spaced, textBefore, InRange}
 use Rattle.sheet.proofs.Refusal.{then-refused}
-use Rattle.sheet.proofs.Lines.{no-value, Small}
+use Rattle.sheet.proofs.Lines.{no-value, ReadSmall}
 use Rattle.sheet.proofs.WritesBack.{joined, split-join, line-written, number-written}
 use Rattle.sheet.proofs.Accepted.{number-fits}
 use Rattle.sheet.proofs.Follows.{number-follows, behind-written}
@@ -25,7 +25,7 @@ roomAt offsets codes of-k = 65536
 roomAt offsets codes (of-contexts k) = min 257 offsets
 roomAt offsets codes (of-code k n site cs) = roomAfter (min 4096 codes) (length (allCodes site) + length cs)
 
-pub record Found (offsets codes n p : ℕ) (s : List ℕ) : Type 0 where
+pub record NumberFound (offsets codes n p : ℕ) (s : List ℕ) : Type 0 where
   pub x : Which
   pub rest : List ℕ
   pub whole : s ≡ textBefore x ++ rest
@@ -35,7 +35,7 @@ pub record Found (offsets codes n p : ℕ) (s : List ℕ) : Type 0 where
 
 -- a line of a number, read
 number-line : (key : List ℕ) (room at : ℕ) (ls : List (List ℕ)) {x : Line ℕ} → line (behind key (numberOf room)) at ls ≡ value x
-    → (joined 10 ls ≡ numberText key (x .got) ++ joined 10 (x .lines)) × (x .next ≡ at + length (numberText key (x .got))) × Small room (x .got)
+    → (joined 10 ls ≡ numberText key (x .got) ++ joined 10 (x .lines)) × (x .next ≡ at + length (numberText key (x .got))) × ReadSmall room (x .got)
 unfolding lineText codesText
 number-line key room at ls {x} f =
     let a = line-written (behind key (numberOf room)) at ls f in
@@ -58,12 +58,12 @@ pub five-length : (a b c d e : List ℕ) → length (a ++ b ++ c ++ d ++ e) ≡ 
 five-length a b c d e = rw (length-append (a ++ b ++ c ++ d) e, length-append (a ++ b ++ c) d, length-append (a ++ b) c, length-append a b)
 
 module _ (offsets codes : ℕ) where
-  found-k : (s : List ℕ) {n p : ℕ} → (rest : List ℕ) × (s ≡ kKey ++ rest) × (p ≡ 0 + length kKey) × Over 65536 n (digitsIn rest) → Found offsets codes n p s
+  found-k : (s : List ℕ) {n p : ℕ} → (rest : List ℕ) × (s ≡ kKey ++ rest) × (p ≡ 0 + length kKey) × Over 65536 n (digitsIn rest) → NumberFound offsets codes n p s
   unfolding textBefore roomAt
   found-k s o = record { x = of-k; rest = o .0; whole = o .1; place = omega (arith, o .2); before = tt; over = o .3 }
 
   found-contexts : (s t : List ℕ) (k q : ℕ) {n p : ℕ} → k ≤ 65535 → s ≡ numberText kKey k ++ t → q ≡ 0 + length (numberText kKey k)
-      → (rest : List ℕ) × (t ≡ contextsKey ++ rest) × (p ≡ q + length contextsKey) × Over (min 257 offsets) n (digitsIn rest) → Found offsets codes n p s
+      → (rest : List ℕ) × (t ≡ contextsKey ++ rest) × (p ≡ q + length contextsKey) × Over (min 257 offsets) n (digitsIn rest) → NumberFound offsets codes n p s
   unfolding textBefore roomAt
   found-contexts s t k q v e f o =
       record {
@@ -76,7 +76,7 @@ module _ (offsets codes : ℕ) where
       }
 
   found-code : (s t u : List ℕ) (k q m r : ℕ) {n p : ℕ} → k ≤ 65535 → m < min 257 offsets → s ≡ numberText kKey k ++ t → q ≡ 0 + length (numberText kKey k) → t ≡ numberText contextsKey m ++ u → r ≡ q + length (numberText contextsKey m)
-      → LinesOver (min 4096 codes) m 0 n r p u → Found offsets codes n p s
+      → LinesOver (min 4096 codes) m 0 n r p u → NumberFound offsets codes n p s
   unfolding textBefore roomAt
   found-code s t u k q m r v w e f g h o =
       let a = numberText kKey k in
@@ -91,7 +91,7 @@ module _ (offsets codes : ℕ) where
         over = rw (← z) (o .over);
       }
 
-  pub found : (s : List ℕ) {n p : ℕ} → readSheet offsets codes s ≡ refused n p → (n ≡ 9 → ⊥) → Found offsets codes n p s
+  pub found : (s : List ℕ) {n p : ℕ} → readSheet offsets codes s ≡ refused n p → (n ≡ 9 → ⊥) → NumberFound offsets codes n p s
   unfolding readSheet
   found s {n} {p} e h =
       then-refused (line (behind kKey (numberOf 65536)) 0 (split 10 s)) _ e

@@ -10,7 +10,7 @@ use Rattle.words.proofs.Split.{by-eq}
 use Rattle.sheet.specs.Read.{Read, refused}
 use Rattle.sheet.specs.Number.{digitsOf, valueOf, digitRun, digitsIn, numberOf}
 use Rattle.sheet.specs.Pieces.{split}
-use Rattle.sheet.specs.Reading.{behind, roomAfter, codesOf, contextOf, line}
+use Rattle.sheet.specs.Reading.{behind, roomAfter, codesRead, contextOf, line}
 use Rattle.sheet.specs.Fits.{Words}
 use Rattle.sheet.specs.Meaning.{spaced}
 use Rattle.sheet.proofs.Numbers.{by-digit, in-none, in-zero, in-run}
@@ -75,14 +75,14 @@ code-next {used = used} a w b d i =
       over = rw (← q) (i .over);
     }
 
-codes-over : (most used at : ℕ) (ws : List (List ℕ)) {n p : ℕ} → codesOf most used at ws ≡ refused n p → (n ≡ 9 → ⊥) → used ≤ most → CodeOver most used n at p (joined 32 ws)
-unfolding codesOf spaced
+codes-over : (most used at : ℕ) (ws : List (List ℕ)) {n p : ℕ} → codesRead most used at ws ≡ refused n p → (n ≡ 9 → ⊥) → used ≤ most → CodeOver most used n at p (joined 32 ws)
+unfolding codesRead spaced
 codes-over most used at [] e h k = no-value (sym e)
 codes-over most used at (w ∷ ws) {n} {p} e h k =
     then-refused (numberOf (roomAfter most used) at w) _ e
     (λ f. let j = joined-ends 32 w ws (omega arith) in let o = number-over _ at w f h in
     record { cs = []; rest = joined 32 (w ∷ ws); whole = refl; place = omega (arith, o .0); words = tt; fits = omega arith; over = rw (j .1, j .2 w, add-zero) (o .1) })
-    (λ a f g. then-refused (codesOf most (suc used) (at + length w + 1) ws) _ g
+    (λ a f g. then-refused (codesRead most (suc used) (at + length w + 1) ws) _ g
     (λ r. let v = number-small _ at w f in
     rw (joined-more 32 w ws (codes-some _ _ _ ws r))
     (code-next a w (v .few) (number-read _ at w f) (codes-over most (suc used) (at + length w + 1) ws r h (room-left most used a (v .fits)))))

@@ -6,32 +6,32 @@ use native.Mathlib.Nat.{not-suc-le-zero, le-of-suc-le-suc}
 use borrow.Author.Tests.{eq-eqb, ne-eqb}
 use lib.ListN.{length, take, drop}
 use Rattle.words.proofs.Split.{by-eq}
-use Rattle.sheet.specs.Pieces.{upTo, onFirst, split}
+use Rattle.sheet.specs.Pieces.{frontTo, onFirst, split}
 
 module _ (b : ℕ) where
-  pub up-to-within : (s : List ℕ) → length (upTo b s) ≤ length s
-  unfolding upTo
+  pub up-to-within : (s : List ℕ) → length (frontTo b s) ≤ length s
+  unfolding frontTo
   up-to-within [] = zero-le
   up-to-within (x ∷ s) =
       by-eq x b (λ e. rw (eq-eqb x b e) zero-le) (λ n. rw (ne-eqb x b n) (suc-le-suc (up-to-within s)))
 
-  pub take-up-to : (s : List ℕ) → take (length (upTo b s)) s ≡ upTo b s
-  unfolding upTo
+  pub take-up-to : (s : List ℕ) → take (length (frontTo b s)) s ≡ frontTo b s
+  unfolding frontTo
   take-up-to [] = refl
   take-up-to (x ∷ s) =
       by-eq x b (λ e. rw (eq-eqb x b e)) (λ n. rw (ne-eqb x b n) (ap (λ (l : List ℕ). x ∷ l) (take-up-to s)))
 
   -- no b behind the first piece
-  pub split-last : (s : List ℕ) → length s ≤ length (upTo b s) → split b s ≡ upTo b s ∷ []
-  unfolding upTo split onFirst
+  pub split-last : (s : List ℕ) → length s ≤ length (frontTo b s) → split b s ≡ frontTo b s ∷ []
+  unfolding frontTo split onFirst
   split-last [] h = refl
   split-last (x ∷ s) h =
       by-eq x b (λ e. absurd (not-suc-le-zero (rw (eq-eqb x b e) at h)))
       (λ n. rw (ne-eqb x b n, split-last s (le-of-suc-le-suc (rw (ne-eqb x b n) at h))))
 
   -- a b behind it
-  pub split-more : (s : List ℕ) → length (upTo b s) < length s → split b s ≡ upTo b s ∷ split b (drop (suc (length (upTo b s))) s)
-  unfolding upTo split onFirst
+  pub split-more : (s : List ℕ) → length (frontTo b s) < length s → split b s ≡ frontTo b s ∷ split b (drop (suc (length (frontTo b s))) s)
+  unfolding frontTo split onFirst
   split-more [] h = absurd (not-suc-le-zero h)
   split-more (x ∷ s) h =
       by-eq x b (λ e. rw (eq-eqb x b e))

@@ -10,9 +10,9 @@ use Rattle.sheet.specs.Read.{Read, value}
 use Rattle.sheet.specs.Number.{digitsOf, numberOf}
 use Rattle.sheet.specs.Pieces.{split, onFirst}
 use Rattle.sheet.specs.Text.{kKey, contextsKey, cKey, codesText, lineText, linesText, sheetText}
-use Rattle.sheet.specs.Reading.{behind, roomAfter, codesOf, contextOf, line, nothing, linesOf, readSheet}
+use Rattle.sheet.specs.Reading.{behind, roomAfter, codesRead, contextOf, line, nothing, linesOf, readSheet}
 use Rattle.site.specs.Tables.{allCodes}
-pub use Rattle.sheet.specs.Fits.{Words, SiteWords, Fits}
+pub use Rattle.sheet.specs.Fits.{Words, SiteWords, SheetFits}
 use Rattle.sheet.proofs.Pieces.{split-some}
 use Rattle.sheet.proofs.Numerals.{Digital, good, number-digits}
 
@@ -47,15 +47,15 @@ unfolding codesText
 words-of n [] = split-free 32 (digitsOf n) (digits-free 32 n (omega arith))
 words-of n (m ∷ ns) = split-cut 32 (digitsOf n) (codesText (m ∷ ns)) (digits-free 32 n (omega arith)) ∙ ap (λ (l : List (List ℕ)). digitsOf n ∷ l) (words-of m ns)
 
-codes-read : (most used at : ℕ) (cs : List ℕ) → Words cs → used + length cs ≤ most → codesOf most used at (map digitsOf cs) ≡ value cs
-unfolding codesOf
+codes-read : (most used at : ℕ) (cs : List ℕ) → Words cs → used + length cs ≤ most → codesRead most used at (map digitsOf cs) ≡ value cs
+unfolding codesRead
 codes-read most used at [] w h = refl
 codes-read most used at (n ∷ ns) w h =
     let l : used < most = omega arith in
     let r : roomAfter most used ≡ 65536 = rw (lt-ltb used most l) in
     rw (r, number-digits 65536 at n (w .0) (omega (arith, w .0)), codes-read most (suc used) (at + length (digitsOf n) + 1) ns (w .1) (omega arith))
 
-pub context-some : (most used at : ℕ) (l : List ℕ) → 0 < length l → contextOf most used at l ≡ codesOf most used at (split 32 l)
+pub context-some : (most used at : ℕ) (l : List ℕ) → 0 < length l → contextOf most used at l ≡ codesRead most used at (split 32 l)
 unfolding contextOf
 context-some most used at [] h = absurd (omega arith)
 context-some most used at (b ∷ l) h = refl
@@ -104,7 +104,7 @@ lines-read most used at (c ∷ site) w h =
 pub free-key : Free 10 contextsKey
 free-key = (λ e. omega arith, (λ e. omega arith, (λ e. omega arith, (λ e. omega arith, (λ e. omega arith, (λ e. omega arith, (λ e. omega arith, (λ e. omega arith, (λ e. omega arith, tt)))))))))
 
-pub reads-back : {offsets codes k : ℕ} {site : List (List ℕ)} → Fits offsets codes k site → readSheet offsets codes (sheetText k site) ≡ value (record { k = k; site = site })
+pub reads-back : {offsets codes k : ℕ} {site : List (List ℕ)} → SheetFits offsets codes k site → readSheet offsets codes (sheetText k site) ≡ value (record { k = k; site = site })
 unfolding readSheet sheetText lineText codesText
 reads-back {offsets} {codes} {k} {site} F =
     let a = kKey ++ digitsOf k in

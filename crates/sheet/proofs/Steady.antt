@@ -10,7 +10,7 @@ use Rattle.words.proofs.Split.{by-eq}
 use Rattle.sheet.specs.Read.{refused}
 use Rattle.sheet.specs.Number.{digitRun, digitsIn, numberOf}
 use Rattle.sheet.specs.Pieces.{split}
-use Rattle.sheet.specs.Reading.{roomAfter, codesOf, contextOf}
+use Rattle.sheet.specs.Reading.{roomAfter, codesRead, contextOf}
 use Rattle.sheet.specs.Meaning.{Alike}
 use Rattle.sheet.proofs.Alike.{Agree, inside, beyond, agree-split}
 use Rattle.sheet.proofs.Lines.{no-value}
@@ -54,27 +54,27 @@ number-steady room at m w u {p} e h a =
     digits : m ≡ suc (length (digitsIn w)) → digitsIn u ≡ digitsIn w
     digits k = in-steady w u (rw k at a)
 
-codes-from : (most used at : ℕ) (ws : List (List ℕ)) → Late at (codesOf most used at ws)
-unfolding codesOf
+codes-from : (most used at : ℕ) (ws : List (List ℕ)) → Late at (codesRead most used at ws)
+unfolding codesRead
 codes-from most used at [] n p e = no-value (sym e)
 codes-from most used at (w ∷ ws) n p e =
     then-refused (numberOf (roomAfter most used) at w) _ e (number-from _ at w n p)
-    (λ a f g. then-refused (codesOf most (suc used) (at + length w + 1) ws) _ g
+    (λ a f g. then-refused (codesRead most (suc used) (at + length w + 1) ws) _ g
     (λ h. omega (arith, codes-from most (suc used) (at + length w + 1) ws n p h))
     (λ c h z. no-value (sym z)))
 
-codes-steady : (most used at m : ℕ) (ws us : List (List ℕ)) {p : ℕ} → codesOf most used at ws ≡ refused 9 p → suc p ≡ at + m → Agree m ws us → codesOf most used at us ≡ refused 9 p
-unfolding codesOf
+codes-steady : (most used at m : ℕ) (ws us : List (List ℕ)) {p : ℕ} → codesRead most used at ws ≡ refused 9 p → suc p ≡ at + m → Agree m ws us → codesRead most used at us ≡ refused 9 p
+unfolding codesRead
 codes-steady most used at m _ _ {p} e h (inside {l = w} {k = u} ws us a) =
     then-refused (numberOf (roomAfter most used) at w) _ e
     (λ f. rw (number-steady _ at m w u f h a))
-    (λ n f g. then-refused (codesOf most (suc used) (at + length w + 1) ws) _ g
+    (λ n f g. then-refused (codesRead most (suc used) (at + length w + 1) ws) _ g
     (λ r. absurd (omega (arith, a .left, codes-from most (suc used) (at + length w + 1) ws 9 p r)))
     (λ c r z. no-value (sym z)))
 codes-steady most used at m _ _ {p} e h (beyond n w {ls = ws} {ks = us} q a) =
     then-refused (numberOf (roomAfter most used) at w) _ e
     (λ f. rw f)
-    (λ v f g. then-refused (codesOf most (suc used) (at + length w + 1) ws) _ g
+    (λ v f g. then-refused (codesRead most (suc used) (at + length w + 1) ws) _ g
     (λ r. rw (f, codes-steady most (suc used) (at + length w + 1) n ws us r (omega arith) a))
     (λ c r z. no-value (sym z)))
 

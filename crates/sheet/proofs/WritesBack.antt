@@ -9,7 +9,7 @@ use Rattle.sheet.specs.Read.{Read, value}
 use Rattle.sheet.specs.Number.{digitsOf, numberOf}
 use Rattle.sheet.specs.Pieces.{split, onFirst}
 use Rattle.sheet.specs.Text.{kKey, contextsKey, cKey, codesText, lineText, linesText, numberText, sheetText}
-use Rattle.sheet.specs.Reading.{behind, roomAfter, codesOf, contextOf, Line, line, nothing, linesOf, Sheet, readSheet}
+use Rattle.sheet.specs.Reading.{behind, roomAfter, codesRead, contextOf, Line, line, nothing, linesOf, Sheet, readSheet}
 use Rattle.sheet.proofs.Pieces.{split-some}
 use Rattle.sheet.proofs.Lines.{no-value, then-value, lines-count}
 use Rattle.sheet.proofs.Numerals.{number-read}
@@ -35,12 +35,12 @@ split-join b (x ∷ s) =
     (λ e. let m = split-some b s in rw (eq-eqb x b e, m .2) (let h : joined b (m .0 ∷ m .1) ≡ s = rw (m .2) at (split-join b s) in rw (h, e)))
     (λ n. rw (ne-eqb x b n, join-first b x (split b s), split-join b s))
 
-codes-written : (most used at : ℕ) (ws : List (List ℕ)) {cs : List ℕ} → codesOf most used at ws ≡ value cs → ws ≡ map digitsOf cs
-unfolding codesOf
+codes-written : (most used at : ℕ) (ws : List (List ℕ)) {cs : List ℕ} → codesRead most used at ws ≡ value cs → ws ≡ map digitsOf cs
+unfolding codesRead
 codes-written most used at [] {cs} e = let f : [] ≡ cs = cc in rw (← f)
 codes-written most used at (w ∷ ws) {cs} e =
     let a = then-value (numberOf (roomAfter most used) at w) _ e in
-    let b = then-value (codesOf most (suc used) (at + length w + 1) ws) _ (a .2) in
+    let b = then-value (codesRead most (suc used) (at + length w + 1) ws) _ (a .2) in
     let f : a .0 ∷ b .0 ≡ cs = cc (b .2) in
     rw (← f) (ap₂ _∷_ (number-read _ at w (a .1)) (codes-written most (suc used) (at + length w + 1) ws (b .1)))
 

@@ -15,7 +15,7 @@ SiteWords [] = Unit {0}
 SiteWords (c ∷ site) = Words c × SiteWords site
 
 -- k and the site fit so many lent offset words and code words
-pub record Fits (offsets codes k : ℕ) (site : List (List ℕ)) : Type 0 where
+pub record SheetFits (offsets codes k : ℕ) (site : List (List ℕ)) : Type 0 where
   pub k-word : k ≤ 65535
   pub words : SiteWords site
   -- at most 256 contexts, and an offset word more than contexts

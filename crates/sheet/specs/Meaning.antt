@@ -17,22 +17,22 @@ pub record Alike (m : ℕ) (s t : List ℕ) : Type 0 where
   pub same : take m s ≡ take m t
 
 -- the first m bytes of s begin a well-formed sheet: that of k and a site, of any sizes
-pub record Begins (m : ℕ) (s : List ℕ) : Type 0 where
+pub record BeginsSheet (m : ℕ) (s : List ℕ) : Type 0 where
   pub k : ℕ
   pub site : List (List ℕ)
   pub alike : Alike m s (sheetText k site)
 
 -- a refusal at p is the earliest: the first p bytes begin a well-formed sheet of which nothing is refused before p
 pub record Earliest (offsets codes : ℕ) (s : List ℕ) (p : ℕ) : Type 0 where
-  pub before : Begins p s
+  pub before : BeginsSheet p s
   pub clear : (n q : ℕ) → readSheet offsets codes (sheetText (before .k) (before .site)) ≡ refused n q → p ≤ q
 
 -- badly formed at p: the first byte that cannot continue a well-formed sheet, or the length of a sheet that stops early
 pub record NineAt (s : List ℕ) (p : ℕ) : Type 0 where
   -- the bytes before p begin a well-formed sheet
-  pub before : Begins p s
+  pub before : BeginsSheet p s
   -- with the byte at p they begin none
-  pub cannot : Begins (p + 1) s → ⊥
+  pub cannot : BeginsSheet (p + 1) s → ⊥
   -- s itself is none: if p is its length, it stops early
   pub unfinished : (k : ℕ) (site : List (List ℕ)) → s ≡ sheetText k site → ⊥
 

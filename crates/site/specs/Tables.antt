@@ -3,6 +3,8 @@ use mathlib.Core.List.{List, [], _∷_, _++_}
 use Prim.Native.Nat.{ℕ, _+_}
 use lib.ListN.{length}
 use lib.Seq.{slice}
+use denote.Ref.{RefT}
+use denote.Triple.Both.{Both}
 use Rattle.site.specs.Site.{Site}
 
 -- the contexts that the offsets cut from the codes
@@ -10,6 +12,14 @@ unfoldable pub siteOf : List ℕ → List ℕ → Site
 siteOf [] codes = []
 siteOf (a ∷ []) codes = []
 siteOf (a ∷ b ∷ offsets) codes = slice a b codes ∷ siteOf (b ∷ offsets) codes
+
+-- in a contract: the site of two lent tables, as a `requires` names them
+abbrev pub siteIn : RefT (List ℕ) → RefT (List ℕ) → Site
+siteIn offsets codes = siteOf (offsets .now) (codes .now)
+
+-- and the same of the tables at entry, as an `ensures` names them
+abbrev pub siteAt : {X Y : Type 0} → Both (RefT (List ℕ)) X → Both (RefT (List ℕ)) Y → Site
+siteAt offsets codes = siteIn (offsets .entry) (codes .entry)
 
 -- the offsets of a site whose first context begins at a
 unfoldable pub offsetsFrom : ℕ → Site → List ℕ

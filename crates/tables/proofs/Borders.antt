@@ -9,17 +9,17 @@ use Rattle.tables.specs.Checks.{sizesCheck, tablesCheck}
 use Rattle.tables.specs.declared.Check.{Check}
 use Rattle.tables.specs.declared.Check.the-variants.{Fine, Refused}
 
-pub record Case : Type 0 where
+pub record Border : Type 0 where
   pub k : ℕ
   pub offsets : List ℕ
   pub codes : List ℕ
   pub answer : Check
 
-abbrev given : ℕ → List ℕ → List ℕ → Check → Case
+abbrev given : ℕ → List ℕ → List ℕ → Check → Border
 given k os cs a = record { k = k; offsets = os; codes = cs; answer = a }
 
 -- k, offsets, codes, and what the checks answer
-unfoldable pub borders : List Case
+unfoldable pub borders : List Border
 borders =
     given 1 (0 ∷ []) [] Fine
     ∷ given 64 (0 ∷ []) [] Fine
@@ -41,6 +41,6 @@ borders =
     ∷ given 1 (0 ∷ 1 ∷ 1 ∷ 2 ∷ []) (9 ∷ 9 ∷ []) Fine
     ∷ []
 
-pub borders-kept : map (λ (c : Case). tablesCheck (c .k) (c .offsets) (c .codes)) borders ≡ map (λ (c : Case). c .answer) borders
+pub borders-kept : map (λ (c : Border). tablesCheck (c .k) (c .offsets) (c .codes)) borders ≡ map (λ (c : Border). c .answer) borders
 unfolding borders tablesCheck sizesCheck earliest firstOf offsetRule endRule codeRule codeRuleBy member
 borders-kept = refl

@@ -11,8 +11,8 @@ use Rattle.tables.specs.Earliest.{firstOf, earliest}
 use Rattle.tables.specs.declared.Check.the-variants.{Fine, Refused}
 
 -- the rule is kept from a up to, and without, e
-abbrev pub Kept : (ℕ → ℕ) → ℕ → ℕ → Type 0
-Kept rule a e = (j : ℕ) → a ≤ j → j < e → rule j ≡ 0
+abbrev pub RuleKept : (ℕ → ℕ) → ℕ → ℕ → Type 0
+RuleKept rule a e = (j : ℕ) → a ≤ j → j < e → rule j ≡ 0
 
 -- k is the earliest index from a up to e that breaks the rule, which refuses it with b
 pub record FirstBreak (rule : ℕ → ℕ) (a e b k : ℕ) : Type 0 where
@@ -20,20 +20,20 @@ pub record FirstBreak (rule : ℕ → ℕ) (a e b k : ℕ) : Type 0 where
   pub below : k < e
   pub number : rule k ≡ b
   pub some : b ≡ 0 → ⊥
-  pub earlier : Kept rule a k
+  pub earlier : RuleKept rule a k
 
-kept-more : {rule : ℕ → ℕ} {a e : ℕ} → rule a ≡ 0 → Kept rule (suc a) e → Kept rule a e
+kept-more : {rule : ℕ → ℕ} {a e : ℕ} → rule a ≡ 0 → RuleKept rule (suc a) e → RuleKept rule a e
 kept-more z k j h l = ⊎-elim (λ q. rw (← q) z) (λ q. k j q l) (eq-or-lt-of-le h)
 
 module _ (rule : ℕ → ℕ) where
-  skip-n : (i n m : ℕ) → Kept rule i (i + n) → firstOf rule i (n + m) ≡ firstOf rule (i + n) m
+  skip-n : (i n m : ℕ) → RuleKept rule i (i + n) → firstOf rule i (n + m) ≡ firstOf rule (i + n) m
   unfolding firstOf
   skip-n i zero m k = rw (zero-add, add-zero)
   skip-n i (suc n) m k =
       rw (suc-add, add-suc, eq-eqb (rule i) 0 (k i (le-refl i) (omega arith)))
       (rw suc-add at (skip-n (suc i) n m (λ j h l. k j (omega arith) (omega arith))))
 
-  fine-n : (i n : ℕ) → firstOf rule i n ≡ Fine → Kept rule i (i + n)
+  fine-n : (i n : ℕ) → firstOf rule i n ≡ Fine → RuleKept rule i (i + n)
   unfolding firstOf
   fine-n i zero f = λ j h l. absurd (omega arith)
   fine-n i (suc n) f =
@@ -54,18 +54,18 @@ module _ (rule : ℕ → ℕ) where
       record { from = omega arith; below = omega arith; number = rw (← e) m; some = λ q. z (m ∙ q); earlier = λ j h l. absurd (omega arith) })
 
 module _ (rule : ℕ → ℕ) (a e : ℕ) (h : a ≤ e) where
-  pub skip : (b : ℕ) → a ≤ b → b ≤ e → Kept rule a b → earliest rule a e ≡ earliest rule b e
+  pub skip : (b : ℕ) → a ≤ b → b ≤ e → RuleKept rule a b → earliest rule a e ≡ earliest rule b e
   unfolding earliest
   skip b p q k =
       let x : e - a ≡ (b - a) + (e - b) = omega arith in
       let y : a + (b - a) ≡ b = omega arith in
       rw x (rw y at (skip-n rule a (b - a) (e - b) (rw y k)))
 
-  pub fine-means : earliest rule a e ≡ Fine → Kept rule a e
+  pub fine-means : earliest rule a e ≡ Fine → RuleKept rule a e
   unfolding earliest
   fine-means f = rw (add-sub-of-le h) at (fine-n rule a (e - a) f)
 
-  pub means-fine : Kept rule a e → earliest rule a e ≡ Fine
+  pub means-fine : RuleKept rule a e → earliest rule a e ≡ Fine
   unfolding earliest firstOf
   means-fine k = skip e h (le-refl e) k ∙ rw (sub-self e)
 

@@ -15,7 +15,7 @@ use Rattle.tables.specs.Earliest.{firstOf, earliest}
 use Rattle.tables.specs.Rules.{endRule, offsetRule, codeRule, partRule, member}
 use Rattle.tables.specs.declared.Check.{Check}
 use Rattle.tables.specs.declared.Check.the-variants.{Fine, Refused}
-use Rattle.tables.proofs.Meaning.{Kept, FirstBreak, fine-means, skip, refused-means, means-refused, earliest-ext}
+use Rattle.tables.proofs.Meaning.{RuleKept, FirstBreak, fine-means, skip, refused-means, means-refused, earliest-ext}
 
 member-here : (xs : List ℕ) (i : ℕ) → i < length xs → member (getD xs i 0) xs ≡ true
 unfolding member
@@ -38,7 +38,7 @@ unfolding endRule
 end-broken os n i h z = rw (eq-eqb _ _ h, ne-eqb _ _ z)
 
 module _ (os : List ℕ) (n : ℕ) (some : 0 < length os) (fine : earliest (offsetRule os n) 0 (length os) ≡ Fine) where
-  kept : Kept (offsetRule os n) 0 (length os)
+  kept : RuleKept (offsetRule os n) 0 (length os)
   kept = fine-means (offsetRule os n) 0 (length os) zero-le fine
 
   pub first-zero : getD os 0 0 ≡ 0

@@ -11,14 +11,14 @@ use Rattle.tables.specs.declared.Check.the-variants.{Fine, Refused}
 
 infixr 20 _andThen_
 -- the paper's number of an answer; 0 where nothing is refused
-abbrev pub numberOf : Check → ℕ
-numberOf Fine = 0
-numberOf (Refused n p) = n
+abbrev pub checkNumber : Check → ℕ
+checkNumber Fine = 0
+checkNumber (Refused n p) = n
 
 -- and its place
-abbrev pub placeOf : Check → ℕ
-placeOf Fine = 0
-placeOf (Refused n p) = p
+abbrev pub checkPlace : Check → ℕ
+checkPlace Fine = 0
+checkPlace (Refused n p) = p
 
 -- refused with the number n, at place 0, where a test holds
 abbrev pub when : Bool → ℕ → Check → Check

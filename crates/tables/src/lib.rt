@@ -4,7 +4,7 @@ ghost use mathlib.Core.Path.{_≡_};
 ghost use Prim.Native.Nat.{_+_, _≤_, _<_};
 ghost use lib.ListN.{length};
 ghost use Rattle.site.specs.Site.{codesOf};
-ghost use Rattle.site.specs.Tables.{siteOf};
+ghost use Rattle.site.specs.Tables.{siteAt};
 ghost use Rattle.tables.specs.Sound.{Sound};
 ghost use Rattle.tables.specs.Earliest.{earliest};
 ghost use Rattle.tables.specs.Checks.{sizesCheck, offsetsCheck, codesCheck, tablesCheck};
@@ -179,7 +179,7 @@ pub fn check_tables(k: u16, offsets: &[u16], codes: &[u16]) -> Check
 // The codes of a context: a part of the lent codes, handed back to the caller.
 pub fn context<'a>(offsets: &[u16], codes: &'a [u16], c: Context) -> &'a [u16]
     requires { ⌜ Sound (now offsets) (now codes) × (c .0 + 1 < length (now offsets)) ⌝ }
-    ensures { λ r. ⌜ now r ≡ codesOf (siteOf (now (offsets .entry)) (now (codes .entry))) (c .0) ⌝ }
+    ensures { λ r. ⌜ now r ≡ codesOf (siteAt offsets codes) (c .0) ⌝ }
 {
     let i = c.0 as usize;
     let from = offsets[i] as usize;

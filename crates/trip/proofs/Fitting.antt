@@ -7,7 +7,7 @@ use borrow.Author.Tests.{lt-ltb}
 use lib.ListN.{length, getD, take, drop}
 use Rattle.words.proofs.Split.{by-le}
 use Rattle.site.specs.Tables.{siteOf, offsetsFrom, offsetsOf, allCodes}
-use Rattle.sheet.proofs.ReadsBack.{Words, SiteWords, Fits}
+use Rattle.sheet.proofs.ReadsBack.{Words, SiteWords, SheetFits}
 use Rattle.tables.specs.Rules.{codeRule, codeRuleBy}
 use Rattle.tables.specs.Sound.{Sound}
 use Rattle.tables.proofs.Meaning.{fine-means}
@@ -52,7 +52,7 @@ code-small {os} {cs} S i h =
     (λ l. let z : _≡_ {A = ℕ} 4 0 = rw (lt-ltb 4095 (getD cs i 0) l) at (fine-means (codeRule os cs) 0 (length cs) zero-le (S .rising) i zero-le h) in absurd (omega arith))
 
 -- what passes 1 to 5 fits a sheet, and lent tables that are as long
-pub written-fits : {k : ℕ} {os cs : List ℕ} → Accepted k os cs → (lo lc : ℕ) → length os ≤ lo → length cs ≤ lc → Fits lo lc k (siteOf os cs)
+pub written-fits : {k : ℕ} {os cs : List ℕ} → Accepted k os cs → (lo lc : ℕ) → length os ≤ lo → length cs ≤ lc → SheetFits lo lc k (siteOf os cs)
 written-fits {k} {os} {cs} A lo lc h g =
     let S = A .sound in
     record {

@@ -45,9 +45,9 @@ pub text-of : (lo lc : ℕ) (sheet : List ℕ) (s : Sheet) (o c : List ℕ) → 
 text-of lo lc sheet s o c e f = rw (f .0, f .1, site-back [] (s .site)) (writes-back lo lc sheet e)
 
 -- the other way: where the site of sound tables is read, the tables are what they were
-pub tables-back : {k : ℕ} {os cs : List ℕ} → Sound os cs → (x : Read Sheet) → x ≡ value (record { k = k; site = siteOf os cs })
+pub tables-again : {k : ℕ} {os cs : List ℕ} → Sound os cs → (x : Read Sheet) → x ≡ value (record { k = k; site = siteOf os cs })
     → (answerOf x ≡ reading.Sheet k (length os - 1) (length cs)) × (offsetsBy x ≡ os) × (codesBy x ≡ cs)
 unfolding answerOf offsetsBy codesBy
-tables-back {k} {os} {cs} S x e =
+tables-again {k} {os} {cs} S x e =
     let n = sym (contexts-are os cs) in
     rw e (λ i. reading.Sheet k (n i) (length (site-is S .1 i)), site-is S .0, site-is S .1)

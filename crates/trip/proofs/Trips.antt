@@ -19,7 +19,7 @@ use Rattle.writer.specs.declared.Writing.{Writing}
 use Rattle.writer.specs.declared.Writing.the-variants as writing
 use Rattle.writer.specs.Calls.{Writes}
 use Rattle.writer.proofs.Answers.{written-where, written-means}
-use Rattle.trip.proofs.Fronts.{front-of, sheet-read, fronts, text-of, tables-back}
+use Rattle.trip.proofs.Fronts.{front-of, sheet-read, fronts, text-of, tables-again}
 use Rattle.trip.proofs.Fitting.{written-fits}
 
 -- Any sheet that is read, and whose tables pass 1 to 5, is written back byte for byte where the text has room:
@@ -46,5 +46,5 @@ written-read {k} {os} {cs} {text} {n} {t} {offsets} {codes} W R h g =
     let A = accepted k os cs (f .0) in
     let tx : take n t ≡ sheetText k (siteOf os cs) = rw (W .text-is, f .2, f .1) (front-of (length text) (sheetText k (siteOf os cs))) in
     let e : readSheet (length offsets) (length codes) (take n t) ≡ value (record { k = k; site = siteOf os cs }) = rw tx (reads-back (written-fits A (length offsets) (length codes) h g)) in
-    let b = tables-back (A .sound) (readSheet (length offsets) (length codes) (take n t)) e in
+    let b = tables-again (A .sound) (readSheet (length offsets) (length codes) (take n t)) e in
     (R .answer ∙ b .0, R .offsets-are ∙ rw (b .1), R .codes-are ∙ rw (b .2))

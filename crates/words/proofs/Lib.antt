@@ -13,4 +13,5 @@ pub mod Tail
 pub mod Tests
 pub mod Words
 pub mod Zeroed
+pub mod OneAnswer
 pub mod Only

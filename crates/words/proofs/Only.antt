@@ -1,15 +1,18 @@
--- One answer only: two buffers that meet a contract are equal. A contract that is an equation leaves no choice.
-use mathlib.Core.List.{List}
+-- One answer only: two results or buffers that meet a contract are equal. `Post` is the contract itself, as it is read from the code.
 use mathlib.Core.Path.{_≡_, sym, _∙_}
-use Prim.Native.Nat.{ℕ}
-use Rattle.words.specs.Words.{zeroedFrom}
+use Rattle.words.proofs.OneAnswer.{OneAnswer}
+use Rattle.words.proofs.zero_words.Kinds as zero-words-kinds
+use Rattle.words.proofs.zero_words.Reads as zero-words
+use Rattle.words.proofs.zero_bytes.Kinds as zero-bytes-kinds
+use Rattle.words.proofs.zero_bytes.Reads as zero-bytes
+use Rattle.words.proofs.smaller.Kinds as smaller-kinds
+use Rattle.words.proofs.smaller.Reads as smaller
 
--- what equals one thing is one thing
-pub one-answer : {A : Type 0} {a b c : A} → a ≡ c → b ≡ c → a ≡ b
-one-answer e f = e ∙ sym f
+pub zero-words-only : OneAnswer 1 zero-words-kinds.ps zero-words-kinds.r zero-words.Post (λ κs u x. x .0 .now)
+zero-words-only κs a u v x y p q = p ∙ sym q
 
-pub zero-words-only : (words : List ℕ) (from : ℕ) {a b : List ℕ} → a ≡ zeroedFrom words from → b ≡ zeroedFrom words from → a ≡ b
-zero-words-only words from e f = one-answer e f
+pub zero-bytes-only : OneAnswer 1 zero-bytes-kinds.ps zero-bytes-kinds.r zero-bytes.Post (λ κs u x. x .0 .now)
+zero-bytes-only κs a u v x y p q = p ∙ sym q
 
-pub zero-bytes-only : (bytes : List ℕ) (from : ℕ) {a b : List ℕ} → a ≡ zeroedFrom bytes from → b ≡ zeroedFrom bytes from → a ≡ b
-zero-bytes-only bytes from e f = one-answer e f
+pub smaller-only : OneAnswer 0 smaller-kinds.ps smaller-kinds.r smaller.Post (λ κs u x. u)
+smaller-only κs a u v x y p q = p ∙ sym q

@@ -5,7 +5,7 @@ use tables::Check;
 ghost use mathlib.Core.Path.{_≡_};
 ghost use mathlib.Core.List.{[], _∷_};
 ghost use lib.ListN.{length};
-ghost use Rattle.site.specs.Tables.{siteOf};
+ghost use Rattle.site.specs.Tables.{siteAt};
 ghost use Rattle.sheet.specs.Text.{numberText, linesText, sheetText};
 ghost use Rattle.tables.specs.Checks.{tablesCheck};
 ghost use Rattle.tables.specs.Sound.{Sound};
@@ -36,7 +36,7 @@ fn number_line(text: &mut [u8], pen: Pen, key: &[u8], n: u16) -> Pen
 fn context_lines(text: &mut [u8], pen: Pen, offsets: &[u16], codes: &[u16]) -> Put
     requires { ⌜ Fits pen (now text) ⌝ }
     requires { ⌜ Sound (now offsets) (now codes) ⌝ }
-    ensures { λ r. ⌜ Added (linesText (siteOf (now (offsets .entry)) (now (codes .entry)))) (now (text .entry)) (now (text .exit)) pen r ⌝ }
+    ensures { λ r. ⌜ Added (linesText (siteAt offsets codes)) (now (text .entry)) (now (text .exit)) pen r ⌝ }
 {
     let mut at = pen;
     let mut i: usize = 0;
@@ -55,7 +55,7 @@ fn context_lines(text: &mut [u8], pen: Pen, offsets: &[u16], codes: &[u16]) -> P
 // The whole sheet from the text's first byte on.
 fn sheet_lines(text: &mut [u8], k: u16, offsets: &[u16], codes: &[u16]) -> Put
     requires { ⌜ Sound (now offsets) (now codes) ⌝ }
-    ensures { λ r. ⌜ Added (sheetText k (siteOf (now (offsets .entry)) (now (codes .entry)))) (now (text .entry)) (now (text .exit)) (record { place = 0; room = length (now (text .entry)) }) r ⌝ }
+    ensures { λ r. ⌜ Added (sheetText k (siteAt offsets codes)) (now (text .entry)) (now (text .exit)) (record { place = 0; room = length (now (text .entry)) }) r ⌝ }
 {
     let room = text.len();
     let first = number_line(text, Pen { place: 0, room }, b"k=", k);
@@ -84,8 +84,8 @@ fn refusal(c: Check) -> Writing
 
 // Writes the sheet of k and the tables. Behind the text, and everywhere after 12, stand zeros; after 1 to 5 nothing has changed.
 pub fn write(k: u16, offsets: &[u16], codes: &[u16], text: &mut [u8]) -> Writing
-    ensures { λ r. ⌜ r ≡ answerBy (tablesCheck k (now (offsets .entry)) (now (codes .entry))) (sheetText k (siteOf (now (offsets .entry)) (now (codes .entry)))) (length (now (text .entry))) ⌝ }
-    ensures { λ _. ⌜ now (text .exit) ≡ textBy (tablesCheck k (now (offsets .entry)) (now (codes .entry))) (sheetText k (siteOf (now (offsets .entry)) (now (codes .entry)))) (now (text .entry)) ⌝ }
+    ensures { λ r. ⌜ r ≡ answerBy (tablesCheck k (now (offsets .entry)) (now (codes .entry))) (sheetText k (siteAt offsets codes)) (length (now (text .entry))) ⌝ }
+    ensures { λ _. ⌜ now (text .exit) ≡ textBy (tablesCheck k (now (offsets .entry)) (now (codes .entry))) (sheetText k (siteAt offsets codes)) (now (text .entry)) ⌝ }
 {
     let c = tables::check_tables(k, offsets, codes);
     let Check::Fine = c else {

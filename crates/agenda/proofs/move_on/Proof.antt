@@ -2,7 +2,7 @@
 use mathlib.Core.Path.{refl, _∙_}
 use Prim.Native.Nat.{_+_}
 use native.Mathlib.Omega.{arith}
-use Rattle.agenda.specs.Tournament.{topOf}
+use Rattle.agenda.specs.Tournament.{topNode}
 use Rattle.agenda.proofs.Subtrees.{subtree}
 use Rattle.agenda.proofs.Climbed.{Ascending, leaf-room, lessened-long, climbing-end, ascending-start, ascending-ranked, ascending-next, leaf-inside}
 use borrow.Author.Needs.{needs}
@@ -10,7 +10,7 @@ use Rattle.agenda.proofs.move_on.Statement.{statement}
 use Rattle.agenda.proofs.move_on.Tie as tie
 
 abbrev Inv-loop : tie.InvT-loop
-Inv-loop work₀ contexts top word w left own best₀ t₀ work best t = Ascending (topOf contexts) work₀ work t best
+Inv-loop work₀ contexts top word w left own best₀ t₀ work best t = Ascending (topNode contexts) work₀ work t best
 
 abbrev μ-loop : tie.MeasureT-loop
 μ-loop work₀ contexts top word w left own best₀ t₀ work best t = t

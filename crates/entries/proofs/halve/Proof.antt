@@ -1,13 +1,13 @@
--- `entries::halve` meets its contract: `Ranked` is its invariant.
+-- `entries::halve` meets its contract: `RankWithin` is its invariant.
 use Prim.Native.Nat.{_-_}
 use native.Mathlib.Omega.{arith}
-use Rattle.entries.proofs.Ranked.{Ranked, ranked-start, ranked-lower, ranked-upper, rank-found}
+use Rattle.entries.proofs.Ranked.{RankWithin, ranked-start, ranked-lower, ranked-upper, rank-found}
 use borrow.Author.Needs.{needs}
 use Rattle.entries.proofs.halve.Statement.{statement}
 use Rattle.entries.proofs.halve.Tie as tie
 
 abbrev Inv-loop : tie.InvT-loop
-Inv-loop list found e lo₀ hi₀ lo hi = Ranked list e found lo hi
+Inv-loop list found e lo₀ hi₀ lo hi = RankWithin list e found lo hi
 
 abbrev μ-loop : tie.MeasureT-loop
 μ-loop list found e lo₀ hi₀ lo hi = hi - lo

@@ -1,5 +1,5 @@
 use Rattle.join.proofs.Outcomes.{join-refused, join-found}
-use Rattle.join.proofs.Checks.{accepted}
+use Rattle.join.proofs.Checks.{call-accepted}
 use mathlib.Core.Path.{sym, _∙_}
 use borrow.Author.Needs.{needs}
 use Rattle.join.proofs.join.Statement.{statement}
@@ -9,7 +9,7 @@ returns : tie.Need-returns
 returns c = let a = c .before .before .before .before .before .before .before .before .before .args in join-refused (a .k) (a .offsets .now) (a .codes .now) (a .list .now) (a .work .now) (a .trail .now) (c .before .before .before .check-call .ensures) (c .before .checked .given .1)
 
 search-requires : tie.Need-search-requires
-search-requires c κs = let w = accepted _ _ _ _ _ (sym (c .before .before .before .before .before .check-call .ensures) ∙ c .before .before .before .enum-told .given .1) in (w .sound, ((w .some, w .few), (w .list-room, w .work-room)))
+search-requires c κs = let w = call-accepted _ _ _ _ _ (sym (c .before .before .before .before .before .check-call .ensures) ∙ c .before .before .before .enum-told .given .1) in (w .sound, ((w .some, w .few), (w .list-room, w .work-room)))
 
 returns-2 : tie.Need-returns-2
 returns-2 c =

@@ -1,13 +1,13 @@
 use Prim.Native.Nat.{_-_}
 use lib.ListN.{length-set}
 use mathlib.Core.Path.{_∙_}
-use Rattle.reader.proofs.Lined.{Lined, lined-start, lined-refused, lined-next, lined-more, lined-end}
+use Rattle.reader.proofs.Lined.{LinesDone, lined-start, lined-refused, lined-next, lined-more, lined-end}
 use borrow.Author.Needs.{needs}
 use Rattle.reader.proofs.context.context_lines.Statement.{statement}
 use Rattle.reader.proofs.context.context_lines.Tie as tie
 
 abbrev Inv-loop : tie.InvT-loop
-Inv-loop sheet at n offsets₀ codes₀ used₀ from₀ i₀ offsets codes used from i = Lined sheet offsets₀ offsets codes₀ codes at n from used i
+Inv-loop sheet at n offsets₀ codes₀ used₀ from₀ i₀ offsets codes used from i = LinesDone sheet offsets₀ offsets codes₀ codes at n from used i
 
 abbrev μ-loop : tie.MeasureT-loop
 μ-loop sheet at n offsets₀ codes₀ used₀ from₀ i₀ offsets codes used from i = n - i
