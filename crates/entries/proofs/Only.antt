@@ -1,6 +1,6 @@
 -- One answer only: two results that meet a function's contract are equal, and so are the buffers that it leaves.
 -- `Post` is the contract itself, as it is read from the code.
-use mathlib.Core.Path.{_≡_, sym, _∙_}
+use mathlib.Core.Path.{sym, _∙_}
 use mathlib.Core.List.{List}
 use Prim.Native.Nat.{ℕ}
 use Rattle.words.proofs.OneAnswer.{OneAnswer}

@@ -7,8 +7,6 @@ use Prim.Native.Nat.{ℕ, _*_, _≤_, _<_}
 use native.Mathlib.Omega.{arith}
 use lib.ListN.{length}
 use borrow.Author.Tests.{lt-ltb, le-ltb}
-use Rattle.site.specs.Measure.{inUse}
-use Rattle.site.specs.Events.{trail as trailOf}
 use Rattle.site.specs.Tables.{siteOf}
 use Rattle.words.proofs.Split.{by-le}
 use Rattle.tables.specs.Checks.{tablesCheck}
@@ -17,11 +15,10 @@ use Rattle.tables.specs.declared.Check.{Check}
 use Rattle.tables.specs.declared.Check.the-variants as check
 use Rattle.tables.proofs.Refusals.{refused-exactly, fine-exactly}
 use Rattle.entries.specs.Entries.{width}
-use Rattle.search.specs.Outcome.{Tells, zeros}
-use Rattle.search.specs.declared.Answer.{Answer}
+use Rattle.search.specs.Outcome.{Tells, zeros, threeCounts, trailNeed}
 use Rattle.search.proofs.Answers.{tells-refused}
-use Rattle.join.specs.Join.{roomsCheck, callCheck, Joins}
-use Rattle.join.specs.Refusals.{Cause, tables, list-room, work-room, trail-room}
+use Rattle.join.specs.Join.{roomsCheck, callCheck, JoinCall, callSite, callChecked, Joins}
+use Rattle.join.specs.Refusals.{Cause, tables, list-room, work-room, trail-room, CallCause}
 use Rattle.join.proofs.Outcomes.{refused-only}
 
 -- ---- the checks
@@ -82,7 +79,7 @@ breaks-few k os cs n p (large-code h w) = omega arith
 breaks-few k os cs n p (code-falls h c w) = omega arith
 
 -- 8 is for the trail alone
-eight-trail : (k : ℕ) (os cs : List ℕ) (list work trail n p : ℕ) → Cause k os cs list work trail n p → n ≡ 8 → trail < 2 * length (trailOf inUse (siteOf os cs) k)
+eight-trail : (k : ℕ) (os cs : List ℕ) (list work trail n p : ℕ) → Cause k os cs list work trail n p → n ≡ 8 → trail < trailNeed k (siteOf os cs)
 eight-trail k os cs list work trail n p (tables b) e = absurd (omega (arith, breaks-few k os cs n p (b .here)))
 eight-trail k os cs list work trail n p (list-room a h) e = absurd (omega arith)
 eight-trail k os cs list work trail n p (work-room a h w) e = absurd (omega arith)
@@ -90,41 +87,54 @@ eight-trail k os cs list work trail n p (trail-room a h w t) e = t
 
 -- ---- the join
 
-module _ (k : ℕ) (os cs list work trail : List ℕ) (r : Answer) (list′ work′ trail′ : List ℕ) (j : Joins k os cs list work trail r list′ work′ trail′) where
+-- where no cause holds, the checks accept and the trail fits
+fine-cause : (k : ℕ) (os cs : List ℕ) (list work trail : ℕ) → callCheck k os cs list work ≡ check.Fine → trail < trailNeed k (siteOf os cs) → Cause k os cs list work trail 8 0
+fine-cause k os cs list work trail f h = let a = fine-kept k os cs list work f in trail-room (fine-exactly k os cs .0 (a .0)) (a .1) (a .2) h
+
+module _ {c : JoinCall} (j : Joins c) where
   -- a refusal has its cause
-  pub refused-cause : (n p : ℕ) → Tells r n (p ∷ []) → Cause k os cs (length list) (length work) (length trail) n p
+  pub refused-cause : (n p : ℕ) → Tells (c .answer) n (p ∷ []) → CallCause c n p
   refused-cause n p e =
       ⊎-elim
-      (λ f. checks-cause k os cs (length list) (length work) (length trail) f)
+      (λ f. checks-cause (c .k) (c .offsets) (c .codes) (length (c .list)) (length (c .work)) (length (c .trail)) f)
       (λ w.
-      let a = fine-kept k os cs (length list) (length work) (w .0) in
       let q : n ≡ 8 = w .2 in
       let z : p ≡ 0 = w .3 in
-      rw (q, z) (trail-room (fine-exactly k os cs .0 (a .0)) (a .1) (a .2) (w .1)))
-      (refused-only k os cs list work trail r list′ work′ trail′ j (tells-refused r e))
+      rw (q, z) (fine-cause (c .k) (c .offsets) (c .codes) (length (c .list)) (length (c .work)) (length (c .trail)) (w .0) (w .1)))
+      (refused-only j (tells-refused (c .answer) e))
 
   -- a cause is refused
-  pub cause-refused : (n p : ℕ) → Cause k os cs (length list) (length work) (length trail) n p → Tells r n (p ∷ [])
-  cause-refused n p (tables b) = j .refused n p (by-tables k os cs (length list) (length work) (refused-exactly k os cs n p .1 b)) .told
-  cause-refused n p (list-room a h) = j .refused 6 0 (by-list k os cs (length list) (length work) (fine-exactly k os cs .1 a) h) .told
-  cause-refused n p (work-room a h w) = j .refused 7 0 (by-work k os cs (length list) (length work) (fine-exactly k os cs .1 a) h w) .told
-  cause-refused n p (trail-room a h w t) = j .no-room (by-none k os cs (length list) (length work) (fine-exactly k os cs .1 a) h w) t .told
+  pub cause-refused : (n p : ℕ) → CallCause c n p → Tells (c .answer) n (p ∷ [])
+  cause-refused n p (tables b) = j .refused n p (by-tables (c .k) (c .offsets) (c .codes) (length (c .list)) (length (c .work)) (refused-exactly (c .k) (c .offsets) (c .codes) n p .1 b)) .told
+  cause-refused n p (list-room a h) = j .refused 6 0 (by-list (c .k) (c .offsets) (c .codes) (length (c .list)) (length (c .work)) (fine-exactly (c .k) (c .offsets) (c .codes) .1 a) h) .told
+  cause-refused n p (work-room a h w) = j .refused 7 0 (by-work (c .k) (c .offsets) (c .codes) (length (c .list)) (length (c .work)) (fine-exactly (c .k) (c .offsets) (c .codes) .1 a) h w) .told
+  cause-refused n p (trail-room a h w t) = j .no-room (by-none (c .k) (c .offsets) (c .codes) (length (c .list)) (length (c .work)) (fine-exactly (c .k) (c .offsets) (c .codes) .1 a) h w) t .told
+
+  -- a call without a cause tells its counts
+  pub none-accepted : ((n p : ℕ) → CallCause c n p → ⊥) → Tells (c .answer) 0 (threeCounts (c .k) (callSite c))
+  none-accepted no-cause = go (callChecked c) refl
+    where
+      go : (x : Check) → callChecked c ≡ x → Tells (c .answer) 0 (threeCounts (c .k) (callSite c))
+      go (check.Refused m q) f = absurd (no-cause m q (checks-cause (c .k) (c .offsets) (c .codes) (length (c .list)) (length (c .work)) (length (c .trail)) f))
+      go check.Fine f = by-le (trailNeed (c .k) (callSite c)) (length (c .trail))
+          (λ h. j .found f h .told)
+          (λ h. absurd (no-cause 8 0 (fine-cause (c .k) (c .offsets) (c .codes) (length (c .list)) (length (c .work)) (length (c .trail)) f h)))
 
   -- after 1 to 7 no buffer has changed
-  pub refused-unchanged : (n p : ℕ) → Tells r n (p ∷ []) → (n ≡ 8 → ⊥) → (list′ ≡ list) × (work′ ≡ work) × (trail′ ≡ trail)
+  pub refused-unchanged : (n p : ℕ) → Tells (c .answer) n (p ∷ []) → (n ≡ 8 → ⊥) → (c .list′ ≡ c .list) × (c .work′ ≡ c .work) × (c .trail′ ≡ c .trail)
   refused-unchanged n p e not-8 =
       ⊎-elim
       (λ f. let w = j .refused n p f in (w .list-as-was, w .work-as-was, w .trail-as-was))
       (λ w. absurd (not-8 (w .2)))
-      (refused-only k os cs list work trail r list′ work′ trail′ j (tells-refused r e))
+      (refused-only j (tells-refused (c .answer) e))
 
   -- after 8 all three are zero
-  pub refused-emptied : (p : ℕ) → Tells r 8 (p ∷ []) → (list′ ≡ zeros list) × (work′ ≡ zeros work) × (trail′ ≡ zeros trail)
+  pub refused-emptied : (p : ℕ) → Tells (c .answer) 8 (p ∷ []) → (c .list′ ≡ zeros (c .list)) × (c .work′ ≡ zeros (c .work)) × (c .trail′ ≡ zeros (c .trail))
   refused-emptied p e =
       ⊎-elim
       (λ f.
-      let many = 2 * length (trailOf inUse (siteOf os cs) k) in
-      let t = eight-trail k os cs (length list) (length work) many 8 p (checks-cause k os cs (length list) (length work) many f) refl in
+      let many = trailNeed (c .k) (callSite c) in
+      let t = eight-trail (c .k) (c .offsets) (c .codes) (length (c .list)) (length (c .work)) many 8 p (checks-cause (c .k) (c .offsets) (c .codes) (length (c .list)) (length (c .work)) many f) refl in
       absurd (omega (arith, t)))
       (λ w. let z = j .no-room (w .0) (w .1) in (z .list-zero, z .work-zero, z .trail-zero))
-      (refused-only k os cs list work trail r list′ work′ trail′ j (tells-refused r e))
+      (refused-only j (tells-refused (c .answer) e))

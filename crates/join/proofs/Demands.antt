@@ -1,6 +1,5 @@
--- Demands 1, 2 and 3 of the join, as corollaries of its contract. Read `Joins` (specs/Join.antt) first: it is what the function
--- `join` promises of every call (proofs/join/Proof.antt with `joins` of Outcomes.antt). Here a call and its outcome are given
--- that meet it.
+-- Demands 1, 2 and 3 of the join: what its contract says of every call. `Post` is the contract itself, as it is read from the code;
+-- it says `Joins` (specs/Join.antt) by `join-says` (Only.antt), and `Joins` says the demands.
 use mathlib.Core.Bool.{true}
 use mathlib.Core.List.{List, [], _∷_}
 use mathlib.Core.Logic.{_↔_}
@@ -10,114 +9,142 @@ use lib.ListN.{length}
 use Rattle.order.specs.Order.{_∈_, Distinct, Sorted}
 use Rattle.site.specs.Ratio.{below, reaches}
 use Rattle.site.specs.Measure.{inUse}
-use Rattle.site.specs.Site.{Site, Pair, Shares, sharing, similarity, rankBefore, topOf, listOf}
-use Rattle.site.specs.Events.{ceilingOf, cutOff, eventsDone, trailBefore, trail as trailOf}
-use Rattle.site.specs.Tables.{siteOf}
+use Rattle.site.specs.Site.{Pair, Shares, sharing, similarity, rankBefore, topOf, listOf}
+use Rattle.site.specs.Events.{ceilingOf, cutOff, found, events, met, trailBefore, trail as trailOf}
 use Rattle.site.proofs.Measures.{in-use-lawful}
+use Rattle.site.proofs.Best.{list-sorted, list-once, list-shares, list-count, list-best, list-all}
 use Rattle.site.proofs.Trail.{trail-sorted, trail-distinct, in-trail, trail-in, trail-list, off-trail}
 use Rattle.words.specs.Words.{padded}
+use Rattle.words.proofs.OneAnswer.{Says}
 use Rattle.tables.proofs.Sound.{sound-rises}
-use Rattle.entries.specs.Listed.{entryWords}
-use Rattle.search.specs.Outcome.{Tells, zeros, trailWords}
-use Rattle.search.specs.declared.Answer.{Answer}
+use Rattle.search.specs.Outcome.{Tells, zeros, threeCounts, listedWords, metWords}
 use Rattle.search.proofs.Answers.{tells-listed}
-use Rattle.join.specs.Join.{Joins}
-use Rattle.join.specs.Refusals.{Cause}
-use Rattle.site.proofs.Best.{list-sorted, list-once, list-shares, list-count, list-best, list-all}
-use Rattle.join.proofs.Causes.{refused-cause, cause-refused, refused-unchanged, refused-emptied}
+use Rattle.join.specs.Join.{JoinCall, callSite, Joins}
+use Rattle.join.specs.Refusals.{CallCause}
+use Rattle.join.proofs.Causes.{refused-cause, cause-refused, none-accepted, refused-unchanged, refused-emptied}
 use Rattle.join.proofs.Checks.{call-accepted}
 use Rattle.join.proofs.Outcomes.{listed-only}
+use Rattle.join.proofs.Only.{callOf, join-says}
+use Rattle.join.proofs.join.Kinds as join-kinds
+use Rattle.join.proofs.join.Reads as join
 
 -- ---- demand 1: the refusals
 
--- Each refusal has its exact cause and place, so every other call is call-accepted and owes what demands 2 and 3 say.
-pub record Demand-1 (k : ℕ) (offsets codes list work trail : List ℕ) (r : Answer) (list′ work′ trail′ : List ℕ) : Type 0 where
+-- Each refusal has its exact cause and place, and every other call is accepted.
+pub record Demand-1 (c : JoinCall) : Type 0 where
   -- it refuses with n at p exactly if that has its cause (specs/Refusals.antt)
-  pub exactly : (n p : ℕ) → Tells r n (p ∷ []) ↔ Cause k offsets codes (length list) (length work) (length trail) n p
+  pub exactly : (n p : ℕ) → Tells (c .answer) n (p ∷ []) ↔ CallCause c n p
+  -- where nothing is a cause, the answer tells found, events and met: then demands 2 and 3 say the rest
+  pub accepted : ((n p : ℕ) → CallCause c n p → ⊥) → Tells (c .answer) 0 (threeCounts (c .k) (callSite c))
   -- after 1 to 7 no buffer has changed
-  pub unchanged : (n p : ℕ) → Tells r n (p ∷ []) → (n ≡ 8 → ⊥) → (list′ ≡ list) × (work′ ≡ work) × (trail′ ≡ trail)
+  pub unchanged : (n p : ℕ) → Tells (c .answer) n (p ∷ []) → (n ≡ 8 → ⊥) → (c .list′ ≡ c .list) × (c .work′ ≡ c .work) × (c .trail′ ≡ c .trail)
   -- after 8 list, work area and trail are all zero
-  pub emptied : (p : ℕ) → Tells r 8 (p ∷ []) → (list′ ≡ zeros list) × (work′ ≡ zeros work) × (trail′ ≡ zeros trail)
+  pub emptied : (p : ℕ) → Tells (c .answer) 8 (p ∷ []) → (c .list′ ≡ zeros (c .list)) × (c .work′ ≡ zeros (c .work)) × (c .trail′ ≡ zeros (c .trail))
+
+-- ---- an accepted call: it tells f, e and m
+
+-- the pairs listed, and those on the trail
+abbrev pub listed : JoinCall → List Pair
+listed c = listOf inUse (callSite c) (c .k)
+
+abbrev pub trailed : JoinCall → List Pair
+trailed c = trailOf inUse (callSite c) (c .k)
 
 -- ---- demand 2: the list
 
 -- It is the first k of all pairs that share a code, in the order of exact similarity, then of the lower and of the higher context.
-pub record Demand-2 (site : Site) (k : ℕ) (found : ℕ) (list list′ : List ℕ) : Type 0 where
-  -- its entries stand in the buffer, and zeros behind them; `found` counts them
-  pub held : list′ ≡ padded (length list) (entryWords site (listOf inUse site k))
-  pub counted : found ≡ length (listOf inUse site k)
+pub record Demand-2 (c : JoinCall) (f : ℕ) : Type 0 where
+  -- its entries stand in the buffer, and zeros behind them; found counts them
+  pub held : c .list′ ≡ padded (length (c .list)) (listedWords (c .k) (callSite c))
+  pub counted : f ≡ found inUse (callSite c) (c .k)
   -- each pair listed shares a code, and none is listed twice
-  pub shares : (p : Pair) → p ∈ listOf inUse site k → Shares site p
-  pub once : Distinct (listOf inUse site k)
+  pub shares : (p : Pair) → p ∈ listed c → Shares (callSite c) p
+  pub once : Distinct (listed c)
   -- they are in order
-  pub sorted : Sorted (rankBefore inUse site) (listOf inUse site k)
+  pub sorted : Sorted (rankBefore inUse (callSite c)) (listed c)
   -- a pair that shares a code and is left out comes behind every pair listed
-  pub best : (p q : Pair) → Shares site p → (p ∈ listOf inUse site k → ⊥) → q ∈ listOf inUse site k → rankBefore inUse site q p ≡ true
+  pub best : (p q : Pair) → Shares (callSite c) p → (p ∈ listed c → ⊥) → q ∈ listed c → rankBefore inUse (callSite c) q p ≡ true
   -- they are k, or all if there are fewer
-  pub size : found ≡ min k (length (sharing site))
-  pub all : length (sharing site) ≤ k → (p : Pair) → Shares site p → p ∈ listOf inUse site k
+  pub size : f ≡ min (c .k) (length (sharing (callSite c)))
+  pub all : length (sharing (callSite c)) ≤ c .k → (p : Pair) → Shares (callSite c) p → p ∈ listed c
 
 -- ---- demand 3: the trail
 
 -- It names, each once, the pairs whose ceiling is not below the similarity of the last pair listed, and it is enough to find the list.
-pub record Demand-3 (site : Site) (k : ℕ) (events met : ℕ) (trail trail′ : List ℕ) : Type 0 where
-  -- its pairs stand in the buffer, and zeros behind them; `met` counts them, and `events` the events done
-  pub held : trail′ ≡ padded (length trail) (trailWords (trailOf inUse site k))
-  pub counted : met ≡ length (trailOf inUse site k)
-  pub done : events ≡ length (eventsDone inUse site k)
+pub record Demand-3 (c : JoinCall) (e m : ℕ) : Type 0 where
+  -- its pairs stand in the buffer, and zeros behind them; met counts them, and events the events done
+  pub held : c .trail′ ≡ padded (length (c .trail)) (metWords (c .k) (callSite c))
+  pub counted : m ≡ met inUse (callSite c) (c .k)
+  pub done : e ≡ events inUse (callSite c) (c .k)
   -- exactly the pairs that share a code and whose ceiling reaches the cut-off
-  pub named : (p : Pair) → p ∈ trailOf inUse site k ↔ (Shares site p × (reaches (cutOff inUse site k) (ceilingOf inUse site p) ≡ true))
-  pub once : Distinct (trailOf inUse site k)
+  pub named : (p : Pair)
+      → p ∈ trailed c ↔ (Shares (callSite c) p × (reaches (cutOff inUse (callSite c) (c .k)) (ceilingOf inUse (callSite c) p) ≡ true))
+  pub once : Distinct (trailed c)
   -- by the later event, then by the earlier one
-  pub sorted : Sorted (trailBefore inUse site) (trailOf inUse site k)
+  pub sorted : Sorted (trailBefore inUse (callSite c)) (trailed c)
   -- ranking the trail alone gives the list
-  pub enough : topOf inUse site k (trailOf inUse site k) ≡ listOf inUse site k
+  pub enough : topOf inUse (callSite c) (c .k) (trailed c) ≡ listed c
   -- every pair that shares a code and is left off is less alike than every pair listed
-  pub less : (p q : Pair) → Shares site p → (p ∈ trailOf inUse site k → ⊥) → q ∈ listOf inUse site k → below (similarity inUse site p) (similarity inUse site q) ≡ true
+  pub less : (p q : Pair) → Shares (callSite c) p → (p ∈ trailed c → ⊥) → q ∈ listed c
+      → below (similarity inUse (callSite c) p) (similarity inUse (callSite c) q) ≡ true
 
-module _ {k : ℕ} {offsets codes list work trail : List ℕ} {r : Answer} {list′ work′ trail′ : List ℕ} (j : Joins k offsets codes list work trail r list′ work′ trail′) where
-  pub demand-1 : Demand-1 k offsets codes list work trail r list′ work′ trail′
-  demand-1 = record {
-    exactly = λ n p. (refused-cause k offsets codes list work trail r list′ work′ trail′ j n p, cause-refused k offsets codes list work trail r list′ work′ trail′ j n p);
-    unchanged = refused-unchanged k offsets codes list work trail r list′ work′ trail′ j;
-    emptied = refused-emptied k offsets codes list work trail r list′ work′ trail′ j;
+-- ---- of the contract as a record
+
+module _ {c : JoinCall} (j : Joins c) where
+  pub joins-1 : Demand-1 c
+  joins-1 = record {
+    exactly = λ n p. (refused-cause j n p, cause-refused j n p);
+    accepted = none-accepted j;
+    unchanged = refused-unchanged j;
+    emptied = refused-emptied j;
   }
 
-  module _ {found events met : ℕ} (e : Tells r 0 (found ∷ events ∷ met ∷ [])) where
-    pub demand-2 : Demand-2 (siteOf offsets codes) k found list list′
-    demand-2 =
-        let site = siteOf offsets codes in
-        let a = listed-only k offsets codes list work trail r list′ work′ trail′ j (tells-listed r e) in
+  module _ {f e m : ℕ} (t : Tells (c .answer) 0 (f ∷ e ∷ m ∷ [])) where
+    pub joins-2 : Demand-2 c f
+    joins-2 =
+        let site = callSite c in
+        let a = listed-only j (tells-listed (c .answer) t) in
         let w = j .found (a .0) (a .1) in
-        let told = sym (e .1) ∙ w .told .1 in
-        let n : found ≡ length (listOf inUse site k) = cc told in
+        let told = sym (t .1) ∙ w .told .1 in
+        let n : f ≡ found inUse site (c .k) = cc told in
         record {
           held = w .list-holds;
           counted = n;
-          shares = list-shares inUse site k;
-          once = list-once inUse site k;
-          sorted = list-sorted inUse site k;
-          best = list-best inUse site k;
-          size = n ∙ list-count inUse site k;
-          all = list-all inUse site k;
+          shares = list-shares inUse site (c .k);
+          once = list-once inUse site (c .k);
+          sorted = list-sorted inUse site (c .k);
+          best = list-best inUse site (c .k);
+          size = n ∙ list-count inUse site (c .k);
+          all = list-all inUse site (c .k);
         }
 
-    pub demand-3 : Demand-3 (siteOf offsets codes) k events met trail trail′
-    demand-3 =
-        let site = siteOf offsets codes in
-        let a = listed-only k offsets codes list work trail r list′ work′ trail′ j (tells-listed r e) in
+    pub joins-3 : Demand-3 c e m
+    joins-3 =
+        let site = callSite c in
+        let a = listed-only j (tells-listed (c .answer) t) in
         let w = j .found (a .0) (a .1) in
-        let told = sym (e .1) ∙ w .told .1 in
-        let n : met ≡ length (trailOf inUse site k) = cc told in
-        let d : events ≡ length (eventsDone inUse site k) = cc told in
-        let R = sound-rises (call-accepted k offsets codes (length list) (length work) (a .0) .sound) in
+        let told = sym (t .1) ∙ w .told .1 in
+        let n : m ≡ met inUse site (c .k) = cc told in
+        let d : e ≡ events inUse site (c .k) = cc told in
+        let R = sound-rises (call-accepted (c .k) (c .offsets) (c .codes) (length (c .list)) (length (c .work)) (a .0) .sound) in
         record {
           held = w .trail-holds;
           counted = n;
           done = d;
-          named = λ p. (in-trail in-use-lawful R k p, λ t. trail-in in-use-lawful R k p (t .0) (t .1));
-          once = trail-distinct in-use-lawful R k;
-          sorted = trail-sorted in-use-lawful R k;
-          enough = trail-list in-use-lawful R k;
-          less = off-trail in-use-lawful R k;
+          named = λ p. (in-trail in-use-lawful R (c .k) p, λ s. trail-in in-use-lawful R (c .k) p (s .0) (s .1));
+          once = trail-distinct in-use-lawful R (c .k);
+          sorted = trail-sorted in-use-lawful R (c .k);
+          enough = trail-list in-use-lawful R (c .k);
+          less = off-trail in-use-lawful R (c .k);
         }
+
+-- ---- of the contract itself
+
+pub demand-1 : Says 5 join-kinds.ps join-kinds.r join.Post (λ κs a u x. Demand-1 (callOf κs a u x))
+demand-1 κs a u x p = joins-1 (join-says κs a u x p)
+
+pub demand-2 : Says 5 join-kinds.ps join-kinds.r join.Post (λ κs a u x. (f e m : ℕ) → Tells u 0 (f ∷ e ∷ m ∷ []) → Demand-2 (callOf κs a u x) f)
+demand-2 κs a u x p f e m t = joins-2 (join-says κs a u x p) t
+
+pub demand-3 : Says 5 join-kinds.ps join-kinds.r join.Post (λ κs a u x. (f e m : ℕ) → Tells u 0 (f ∷ e ∷ m ∷ []) → Demand-3 (callOf κs a u x) e m)
+demand-3 κs a u x p f e m t = joins-3 (join-says κs a u x p) t

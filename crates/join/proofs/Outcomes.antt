@@ -3,21 +3,18 @@
 use mathlib.Core.List.{List}
 use mathlib.Core.Logic.{_⊎_, inl, inr}
 use mathlib.Core.Path.{_≡_, refl, sym, ap, _∙_}
-use Prim.Native.Nat.{ℕ, _*_, _≤_, _<_}
+use Prim.Native.Nat.{ℕ, _≤_, _<_}
 use native.Mathlib.Omega.{arith}
 use lib.ListN.{length}
 use borrow.Author.Tests.{lt-ltb, le-ltb}
-use Rattle.site.specs.Measure.{inUse}
-use Rattle.site.specs.Events.{trail as trailOf}
 use Rattle.site.specs.Tables.{siteOf}
 use Rattle.words.proofs.Split.{by-le}
 use Rattle.tables.specs.declared.Check.{Check}
 use Rattle.tables.specs.declared.Check.the-variants as check
-use Rattle.search.specs.Outcome.{Outcome, outcome, searchOf}
-use Rattle.search.specs.declared.Answer.{Answer}
+use Rattle.search.specs.Outcome.{Outcome, outcome, trailNeed, searchOf}
 use Rattle.search.specs.declared.Answer.the-variants as answer
 use Rattle.search.proofs.Answers.{tells-refused, refused-tells, tells-listed, listed-tells}
-use Rattle.join.specs.Join.{callCheck, joinOf, Joins, Unchanged, TrailFull, Found}
+use Rattle.join.specs.Join.{callCheck, joinOf, JoinCall, callSite, callChecked, callOutcome, callOwes, Unchanged, TrailFull, Found, Joins}
 
 -- a refusal tells no counts
 other : {X : Type 0} {n p f e m : ℕ} → answer.Refused n p ≡ answer.Listed f e m → X
@@ -37,79 +34,96 @@ module _ (k : ℕ) (os cs list work trail : List ℕ) where
     unfolding joinOf
     join-found f q = rw (← e, f) q
 
-  -- ---- the equation and the record
+-- ---- the equation and the record
 
-  module _ (r : Answer) (list′ work′ trail′ : List ℕ) where
-    unchanged-so : (n p : ℕ) → outcome r list′ work′ trail′ ≡ outcome (answer.Refused n p) list work trail → Unchanged k os cs list work trail r list′ work′ trail′ n p
-    unchanged-so n p e = record { told = refused-tells (ap (λ (o : Outcome). o .answer) e); list-as-was = ap (λ (o : Outcome). o .list) e; work-as-was = ap (λ (o : Outcome). o .work) e; trail-as-was = ap (λ (o : Outcome). o .trail) e }
+module _ (c : JoinCall) where
+  unchanged-so : (n p : ℕ) → callOutcome c ≡ outcome (answer.Refused n p) (c .list) (c .work) (c .trail) → Unchanged c n p
+  unchanged-so n p e = record {
+    told = refused-tells (ap (λ (o : Outcome). o .answer) e);
+    list-as-was = ap (λ (o : Outcome). o .list) e;
+    work-as-was = ap (λ (o : Outcome). o .work) e;
+    trail-as-was = ap (λ (o : Outcome). o .trail) e;
+  }
 
-    -- where the checks accept
-    module _ (f : callCheck k os cs (length list) (length work) ≡ check.Fine) where
-      no-room-so : length trail < 2 * length (trailOf inUse (siteOf os cs) k) → outcome r list′ work′ trail′ ≡ joinOf k os cs list work trail → TrailFull k os cs list work trail r list′ work′ trail′
-      unfolding joinOf searchOf
-      no-room-so h e =
-          let q = rw (f, lt-ltb (length trail) (2 * length (trailOf inUse (siteOf os cs) k)) h) at e in
-          record { told = refused-tells (ap (λ (o : Outcome). o .answer) q); list-zero = ap (λ (o : Outcome). o .list) q; work-zero = ap (λ (o : Outcome). o .work) q; trail-zero = ap (λ (o : Outcome). o .trail) q }
+  -- where the checks accept
+  module _ (f : callChecked c ≡ check.Fine) where
+    full-so : length (c .trail) < trailNeed (c .k) (callSite c) → callOutcome c ≡ callOwes c → TrailFull c
+    unfolding joinOf searchOf
+    full-so h e =
+        let q = rw (f, lt-ltb (length (c .trail)) (trailNeed (c .k) (callSite c)) h) at e in
+        record {
+          told = refused-tells (ap (λ (o : Outcome). o .answer) q);
+          list-zero = ap (λ (o : Outcome). o .list) q;
+          work-zero = ap (λ (o : Outcome). o .work) q;
+          trail-zero = ap (λ (o : Outcome). o .trail) q;
+        }
 
-      found-so : 2 * length (trailOf inUse (siteOf os cs) k) ≤ length trail → outcome r list′ work′ trail′ ≡ joinOf k os cs list work trail → Found k os cs list work trail r list′ work′ trail′
-      unfolding joinOf searchOf
-      found-so h e =
-          let q = rw (f, le-ltb (length trail) (2 * length (trailOf inUse (siteOf os cs) k)) h) at e in
-          record { told = listed-tells (ap (λ (o : Outcome). o .answer) q); list-holds = ap (λ (o : Outcome). o .list) q; work-zero = ap (λ (o : Outcome). o .work) q; trail-holds = ap (λ (o : Outcome). o .trail) q }
+    found-so : trailNeed (c .k) (callSite c) ≤ length (c .trail) → callOutcome c ≡ callOwes c → Found c
+    unfolding joinOf searchOf
+    found-so h e =
+        let q = rw (f, le-ltb (length (c .trail)) (trailNeed (c .k) (callSite c)) h) at e in
+        record {
+          told = listed-tells (ap (λ (o : Outcome). o .answer) q);
+          list-holds = ap (λ (o : Outcome). o .list) q;
+          work-zero = ap (λ (o : Outcome). o .work) q;
+          trail-holds = ap (λ (o : Outcome). o .trail) q;
+        }
 
-      accepted-is : Joins k os cs list work trail r list′ work′ trail′ → outcome r list′ work′ trail′ ≡ joinOf k os cs list work trail
-      unfolding joinOf searchOf
-      accepted-is j = by-le (2 * length (trailOf inUse (siteOf os cs) k)) (length trail)
-          (λ h. let w = j .found f h in let a = tells-listed r (w .told) in rw (f, le-ltb (length trail) (2 * length (trailOf inUse (siteOf os cs) k)) h) (λ i. record { answer = a i; list = w .list-holds i; work = w .work-zero i; trail = w .trail-holds i }))
-          (λ h. let w = j .no-room f h in let a = tells-refused r (w .told) in rw (f, lt-ltb (length trail) (2 * length (trailOf inUse (siteOf os cs) k)) h) (λ i. record { answer = a i; list = w .list-zero i; work = w .work-zero i; trail = w .trail-zero i }))
+    accepted-is : Joins c → callOutcome c ≡ callOwes c
+    unfolding joinOf searchOf
+    accepted-is j = by-le (trailNeed (c .k) (callSite c)) (length (c .trail))
+        (λ h. let w = j .found f h in let a = tells-listed (c .answer) (w .told) in
+        rw (f, le-ltb (length (c .trail)) (trailNeed (c .k) (callSite c)) h) (λ i. record { answer = a i; list = w .list-holds i; work = w .work-zero i; trail = w .trail-holds i }))
+        (λ h. let w = j .no-room f h in let a = tells-refused (c .answer) (w .told) in
+        rw (f, lt-ltb (length (c .trail)) (trailNeed (c .k) (callSite c)) h) (λ i. record { answer = a i; list = w .list-zero i; work = w .work-zero i; trail = w .trail-zero i }))
 
-    refused-is : {n p : ℕ} → callCheck k os cs (length list) (length work) ≡ check.Refused n p → Unchanged k os cs list work trail r list′ work′ trail′ n p → outcome r list′ work′ trail′ ≡ joinOf k os cs list work trail
-    unfolding joinOf
-    refused-is f w = let a = tells-refused r (w .told) in rw f (λ i. record { answer = a i; list = w .list-as-was i; work = w .work-as-was i; trail = w .trail-as-was i })
+  refused-is : {n p : ℕ} → callChecked c ≡ check.Refused n p → Unchanged c n p → callOutcome c ≡ callOwes c
+  unfolding joinOf
+  refused-is f w = let a = tells-refused (c .answer) (w .told) in rw f (λ i. record { answer = a i; list = w .list-as-was i; work = w .work-as-was i; trail = w .trail-as-was i })
 
-    -- the equation says the record
-    pub joins : outcome r list′ work′ trail′ ≡ joinOf k os cs list work trail → Joins k os cs list work trail r list′ work′ trail′
-    joins e = record {
-      refused = λ n p f. unchanged-so n p (e ∙ sym (join-refused (sym f) refl));
-      no-room = λ f h. no-room-so f h e;
-      found = λ f h. found-so f h e;
-    }
+  -- the equation says the record
+  pub joins : callOutcome c ≡ callOwes c → Joins c
+  joins e = record {
+    refused = λ n p f. unchanged-so n p (e ∙ sym (join-refused (c .k) (c .offsets) (c .codes) (c .list) (c .work) (c .trail) (sym f) refl));
+    no-room = λ f h. full-so f h e;
+    found = λ f h. found-so f h e;
+  }
 
-    -- and the record the equation
-    pub joins-back : Joins k os cs list work trail r list′ work′ trail′ → outcome r list′ work′ trail′ ≡ joinOf k os cs list work trail
-    joins-back j = go (callCheck k os cs (length list) (length work)) refl
-      where
-        go : (c : Check) → callCheck k os cs (length list) (length work) ≡ c → outcome r list′ work′ trail′ ≡ joinOf k os cs list work trail
-        go check.Fine f = accepted-is f j
-        go (check.Refused n p) f = refused-is f (j .refused n p f)
+  -- and the record the equation
+  pub joins-back : Joins c → callOutcome c ≡ callOwes c
+  joins-back j = go (callChecked c) refl
+    where
+      go : (x : Check) → callChecked c ≡ x → callOutcome c ≡ callOwes c
+      go check.Fine f = accepted-is f j
+      go (check.Refused n p) f = refused-is f (j .refused n p f)
 
-    -- ---- what an answer tells of the call
+-- ---- what an answer tells of the call
 
-    module _ (j : Joins k os cs list work trail r list′ work′ trail′) where
-      -- a refusal is of the checks, or it is 8
-      pub refused-only : {n p : ℕ} → r ≡ answer.Refused n p
-          → (callCheck k os cs (length list) (length work) ≡ check.Refused n p) ⊎ ((callCheck k os cs (length list) (length work) ≡ check.Fine) × (length trail < 2 * length (trailOf inUse (siteOf os cs) k)) × (n ≡ 8) × (p ≡ 0))
-      refused-only {n} {p} e = go (callCheck k os cs (length list) (length work)) refl
-        where
-          go : (c : Check) → callCheck k os cs (length list) (length work) ≡ c
-              → (callCheck k os cs (length list) (length work) ≡ check.Refused n p) ⊎ ((callCheck k os cs (length list) (length work) ≡ check.Fine) × (length trail < 2 * length (trailOf inUse (siteOf os cs) k)) × (n ≡ 8) × (p ≡ 0))
-          go (check.Refused m q) f =
-              let same : answer.Refused m q ≡ answer.Refused n p = sym (tells-refused r (j .refused m q f .told)) ∙ e in
-              let a : m ≡ n = cc same in
-              let b : q ≡ p = cc same in
-              inl (f ∙ (λ i. check.Refused (a i) (b i)))
-          go check.Fine f = by-le (2 * length (trailOf inUse (siteOf os cs) k)) (length trail)
-              (λ h. other (sym e ∙ tells-listed r (j .found f h .told)))
-              (λ h.
-              let same : answer.Refused 8 0 ≡ answer.Refused n p = sym (tells-refused r (j .no-room f h .told)) ∙ e in
-              let a : 8 ≡ n = cc same in
-              let b : 0 ≡ p = cc same in
-              inr (f, h, sym a, sym b))
+module _ {c : JoinCall} (j : Joins c) where
+  -- a refusal is of the checks, or it is 8
+  pub refused-only : {n p : ℕ} → c .answer ≡ answer.Refused n p
+      → (callChecked c ≡ check.Refused n p) ⊎ ((callChecked c ≡ check.Fine) × (length (c .trail) < trailNeed (c .k) (callSite c)) × (n ≡ 8) × (p ≡ 0))
+  refused-only {n} {p} e = go (callChecked c) refl
+    where
+      go : (x : Check) → callChecked c ≡ x
+          → (callChecked c ≡ check.Refused n p) ⊎ ((callChecked c ≡ check.Fine) × (length (c .trail) < trailNeed (c .k) (callSite c)) × (n ≡ 8) × (p ≡ 0))
+      go (check.Refused m q) f =
+          let same : answer.Refused m q ≡ answer.Refused n p = sym (tells-refused (c .answer) (j .refused m q f .told)) ∙ e in
+          let a : m ≡ n = cc same in
+          let b : q ≡ p = cc same in
+          inl (f ∙ (λ i. check.Refused (a i) (b i)))
+      go check.Fine f = by-le (trailNeed (c .k) (callSite c)) (length (c .trail))
+          (λ h. other (sym e ∙ tells-listed (c .answer) (j .found f h .told)))
+          (λ h.
+          let same : answer.Refused 8 0 ≡ answer.Refused n p = sym (tells-refused (c .answer) (j .no-room f h .told)) ∙ e in
+          let a : 8 ≡ n = cc same in
+          let b : 0 ≡ p = cc same in
+          inr (f, h, sym a, sym b))
 
-      -- counts are told where the checks accept and the trail fits
-      pub listed-only : {found events met : ℕ} → r ≡ answer.Listed found events met → (callCheck k os cs (length list) (length work) ≡ check.Fine) × (2 * length (trailOf inUse (siteOf os cs) k) ≤ length trail)
-      listed-only {found} {events} {met} e = go (callCheck k os cs (length list) (length work)) refl
-        where
-          go : (c : Check) → callCheck k os cs (length list) (length work) ≡ c → (callCheck k os cs (length list) (length work) ≡ check.Fine) × (2 * length (trailOf inUse (siteOf os cs) k) ≤ length trail)
-          go (check.Refused m q) f = other (sym (tells-refused r (j .refused m q f .told)) ∙ e)
-          go check.Fine f = by-le (2 * length (trailOf inUse (siteOf os cs) k)) (length trail) (λ h. (f, h)) (λ h. other (sym (tells-refused r (j .no-room f h .told)) ∙ e))
+  -- counts are told where the checks accept and the trail fits
+  pub listed-only : {found events met : ℕ} → c .answer ≡ answer.Listed found events met → (callChecked c ≡ check.Fine) × (trailNeed (c .k) (callSite c) ≤ length (c .trail))
+  listed-only {found} {events} {met} e = go (callChecked c) refl
+    where
+      go : (x : Check) → callChecked c ≡ x → (callChecked c ≡ check.Fine) × (trailNeed (c .k) (callSite c) ≤ length (c .trail))
+      go (check.Refused m q) f = other (sym (tells-refused (c .answer) (j .refused m q f .told)) ∙ e)
+      go check.Fine f = by-le (trailNeed (c .k) (callSite c)) (length (c .trail)) (λ h. (f, h)) (λ h. other (sym (tells-refused (c .answer) (j .no-room f h .told)) ∙ e))

@@ -1,21 +1,18 @@
 -- The join: its checks in their order, its answer, and every word of its buffers.
--- `joinOf` is the contract as an equation, `Joins` the same as a record with a field for each way out.
+-- `joinOf` is the contract as an equation, `Joins` the same of a call as a record with a field for each way out.
 use mathlib.Core.List.{List, [], _∷_}
 use mathlib.Core.Path.{_≡_}
 use Prim.Native.Nat.{ℕ, _*_, _≤_, _<_}
 use lib.Dec.{ltb}
 use lib.ListN.{length}
-use Rattle.site.specs.Measure.{inUse}
-use Rattle.site.specs.Site.{listOf}
-use Rattle.site.specs.Events.{eventsDone, trail as trailOf}
+use Rattle.site.specs.Site.{Site}
 use Rattle.site.specs.Tables.{siteOf}
 use Rattle.words.specs.Words.{padded}
 use Rattle.tables.specs.Checks.{when, _andThen_, tablesCheck}
 use Rattle.tables.specs.declared.Check.{Check}
 use Rattle.tables.specs.declared.Check.the-variants as check
 use Rattle.entries.specs.Entries.{width}
-use Rattle.entries.specs.Listed.{entryWords}
-use Rattle.search.specs.Outcome.{Tells, Outcome, outcome, zeros, trailWords, searchOf}
+use Rattle.search.specs.Outcome.{Tells, Outcome, outcome, zeros, threeCounts, trailNeed, listedWords, metWords, searchOf}
 use Rattle.search.specs.declared.Answer.{Answer}
 use Rattle.search.specs.declared.Answer.the-variants as answer
 
@@ -38,37 +35,68 @@ checked (check.Refused n p) list work trail found = outcome (answer.Refused n p)
 
 -- the checks, then the search over the site that the tables stand for
 unfoldable pub joinOf : ℕ → List ℕ → List ℕ → List ℕ → List ℕ → List ℕ → Outcome
-joinOf k offsets codes list work trail = checked (callCheck k offsets codes (length list) (length work)) list work trail (searchOf k (siteOf offsets codes) list work trail)
+joinOf k offsets codes list work trail =
+    checked (callCheck k offsets codes (length list) (length work)) list work trail (searchOf k (siteOf offsets codes) list work trail)
 
--- ---- the same in the paper's words: of the inputs and buffers at entry, the answer and the buffers at exit
+-- ---- a call
 
-module _ (k : ℕ) (offsets codes list work trail : List ℕ) (r : Answer) (list′ work′ trail′ : List ℕ) where
+-- what a call of the join is given, what it answers, and its buffers at exit
+pub record JoinCall : Type 0 where
+  pub k : ℕ
+  pub offsets : List ℕ
+  pub codes : List ℕ
+  pub list : List ℕ
+  pub work : List ℕ
+  pub trail : List ℕ
+  pub answer : Answer
+  pub list′ : List ℕ
+  pub work′ : List ℕ
+  pub trail′ : List ℕ
+
+module _ (c : JoinCall) where
+  -- the site that its tables stand for
+  abbrev pub callSite : Site
+  callSite = siteOf (c .offsets) (c .codes)
+
+  -- what the checks 1 to 7 say of it
+  abbrev pub callChecked : Check
+  callChecked = callCheck (c .k) (c .offsets) (c .codes) (length (c .list)) (length (c .work))
+
+  -- what it ends in, and what it has to end in
+  abbrev pub callOutcome : Outcome
+  callOutcome = outcome (c .answer) (c .list′) (c .work′) (c .trail′)
+
+  abbrev pub callOwes : Outcome
+  callOwes = joinOf (c .k) (c .offsets) (c .codes) (c .list) (c .work) (c .trail)
+
+  -- ---- the same in the paper's words
+
   -- refused with a number and a place, and no buffer has changed
   pub record Unchanged (n p : ℕ) : Type 0 where
-    pub told : Tells r n (p ∷ [])
-    pub list-as-was : list′ ≡ list
-    pub work-as-was : work′ ≡ work
-    pub trail-as-was : trail′ ≡ trail
+    pub told : Tells (c .answer) n (p ∷ [])
+    pub list-as-was : c .list′ ≡ c .list
+    pub work-as-was : c .work′ ≡ c .work
+    pub trail-as-was : c .trail′ ≡ c .trail
 
   -- 8 at 0, and list, work area and trail are all zero
   pub record TrailFull : Type 0 where
-    pub told : Tells r 8 (0 ∷ [])
-    pub list-zero : list′ ≡ zeros list
-    pub work-zero : work′ ≡ zeros work
-    pub trail-zero : trail′ ≡ zeros trail
+    pub told : Tells (c .answer) 8 (0 ∷ [])
+    pub list-zero : c .list′ ≡ zeros (c .list)
+    pub work-zero : c .work′ ≡ zeros (c .work)
+    pub trail-zero : c .trail′ ≡ zeros (c .trail)
 
   -- the three counts; the entries of the list, then zeros; a work area of zeros; the pairs of the trail, then zeros
   pub record Found : Type 0 where
-    pub told : Tells r 0 (length (listOf inUse (siteOf offsets codes) k) ∷ length (eventsDone inUse (siteOf offsets codes) k) ∷ length (trailOf inUse (siteOf offsets codes) k) ∷ [])
-    pub list-holds : list′ ≡ padded (length list) (entryWords (siteOf offsets codes) (listOf inUse (siteOf offsets codes) k))
-    pub work-zero : work′ ≡ zeros work
-    pub trail-holds : trail′ ≡ padded (length trail) (trailWords (trailOf inUse (siteOf offsets codes) k))
+    pub told : Tells (c .answer) 0 (threeCounts (c .k) callSite)
+    pub list-holds : c .list′ ≡ padded (length (c .list)) (listedWords (c .k) callSite)
+    pub work-zero : c .work′ ≡ zeros (c .work)
+    pub trail-holds : c .trail′ ≡ padded (length (c .trail)) (metWords (c .k) callSite)
 
   -- the contract of the join
   pub record Joins : Type 0 where
     -- 1 to 7: what the checks say
-    pub refused : (n p : ℕ) → callCheck k offsets codes (length list) (length work) ≡ check.Refused n p → Unchanged n p
+    pub refused : (n p : ℕ) → callChecked ≡ check.Refused n p → Unchanged n p
     -- 8: the whole trail does not fit
-    pub no-room : callCheck k offsets codes (length list) (length work) ≡ check.Fine → length trail < 2 * length (trailOf inUse (siteOf offsets codes) k) → TrailFull
+    pub no-room : callChecked ≡ check.Fine → length (c .trail) < trailNeed (c .k) callSite → TrailFull
     -- else
-    pub found : callCheck k offsets codes (length list) (length work) ≡ check.Fine → 2 * length (trailOf inUse (siteOf offsets codes) k) ≤ length trail → Found
+    pub found : callChecked ≡ check.Fine → trailNeed (c .k) callSite ≤ length (c .trail) → Found

@@ -1,6 +1,6 @@
 // The join: checks 1 to 7 in their order, then the search over tables that are accepted.
 // Its contract is one equation with `joinOf`. specs/Join.antt says the same as the record `Joins`, in the paper's words, and
-// proofs/Demands.antt draws demands 1, 2 and 3 from it.
+// proofs/Demands.antt draws demands 1, 2 and 3 from the contract.
 ghost use mathlib.Core.Path.{_≡_};
 ghost use Rattle.search.specs.Outcome.{outcome};
 ghost use Rattle.join.specs.Join.{roomsCheck, callCheck, joinOf};
@@ -52,7 +52,8 @@ pub fn join(
     work: &mut [u16],
     trail: &mut [u16],
 ) -> Answer
-    ensures { λ r. ⌜ outcome r (now (list .exit)) (now (work .exit)) (now (trail .exit)) ≡ joinOf k (now (offsets .entry)) (now (codes .entry)) (now (list .entry)) (now (work .entry)) (now (trail .entry)) ⌝ }
+    ensures { λ r. ⌜ outcome r (now (list .exit)) (now (work .exit)) (now (trail .exit))
+        ≡ joinOf k (now (offsets .entry)) (now (codes .entry)) (now (list .entry)) (now (work .entry)) (now (trail .entry)) ⌝ }
 {
     let checked = check_call(k, offsets, codes, list.len(), work.len());
     if let Check::Refused { number, place } = checked {

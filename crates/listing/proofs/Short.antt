@@ -14,8 +14,7 @@ use Rattle.site.specs.Site.{Site, Rising, Pair, Shares, sizeOf, codesOf, union,
 use Rattle.site.specs.Events.{eventsDone, trail}
 use Rattle.site.specs.Tables.{siteOf, offsetsOf, allCodes}
 use Rattle.site.proofs.Contexts.{first-bound}
-use Rattle.site.proofs.Measures.{in-use-lawful}
-use Rattle.site.proofs.Trail.{listed-shares}
+use Rattle.site.proofs.Best.{list-shares}
 use Rattle.words.specs.Words.{flat}
 use Rattle.words.proofs.Split.{by-le}
 use Rattle.tables.proofs.Sound.{contexts-are, size-small, sound-rises}
@@ -97,7 +96,7 @@ module _ {s : Sheet} (p : Passed s) where
       let b = line-short foundKey (length (listOf inUse (s .site) (s .k)) ∷ []) (omega arith, tt) in
       let c = line-short eventsKey (length (eventsDone inUse (s .site) (s .k)) ∷ []) (omega arith, tt) in
       let d = line-short metKey (length (trail inUse (s .site) (s .k)) ∷ []) (omega arith, tt) in
-      let g = pairs-short (listOf inUse (s .site) (s .k)) (listed-shares in-use-lawful rises (s .k)) in
+      let g = pairs-short (listOf inUse (s .site) (s .k)) (list-shares inUse (s .site) (s .k)) in
       rw (length-append, length-append, length-append, length-append) (omega arith)
 
 listed-passed : (sheet : List ℕ) {s : Sheet} → listed sheet ≡ value s → Passed s

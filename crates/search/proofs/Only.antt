@@ -1,6 +1,6 @@
 -- One outcome only: two results that meet the contract of the search are equal, with every word of the buffers that they leave.
 -- `Post` is the contract itself, as it is read from the code.
-use mathlib.Core.Path.{_≡_, sym, _∙_}
+use mathlib.Core.Path.{sym, _∙_}
 use Rattle.words.proofs.OneAnswer.{OneAnswer}
 use Rattle.search.specs.Outcome.{outcome}
 use Rattle.search.proofs.search.Kinds as search-kinds

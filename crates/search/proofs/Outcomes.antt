@@ -8,13 +8,13 @@ use native.Mathlib.Omega.{arith}
 use lib.ListN.{length, replicate, length-replicate}
 use borrow.Author.Tests.{lt-ltb, le-ltb}
 use Rattle.site.specs.Measure.{inUse}
-use Rattle.site.specs.Site.{Site, listOf}
-use Rattle.site.specs.Events.{trail as trailOf}
+use Rattle.site.specs.Site.{Site}
+use Rattle.site.specs.Events.{met, trail as trailOf}
+use Rattle.site.proofs.Trail.{trail-met}
 use Rattle.words.specs.Words.{padded, zeroedFrom}
 use Rattle.words.proofs.Split.{by-le}
 use Rattle.words.proofs.Words.{begins-zeroed}
-use Rattle.entries.specs.Listed.{entryWords}
-use Rattle.search.specs.Outcome.{outcome, zeros, trailWords, searchOf}
+use Rattle.search.specs.Outcome.{outcome, zeros, trailNeed, listedWords, metWords, searchOf}
 use Rattle.search.specs.Search.{Searched}
 use Rattle.search.specs.declared.Answer.{Answer}
 use Rattle.search.specs.declared.Answer.the-variants as answer
@@ -33,13 +33,13 @@ zeros-as old m e q = rw (← q) e
 
 module _ {site : Site} {k : ℕ} {list buffer : List ℕ} {r : Answer} (w : Searched site k list buffer r) where
   -- a refusal is 8, and only where the trail does not fit
-  refused-full : {n p : ℕ} → r ≡ answer.Refused n p → length buffer < 2 * length (trailOf inUse site k)
-  refused-full e = by-le (2 * length (trailOf inUse site k)) (length buffer)
+  refused-full : {n p : ℕ} → r ≡ answer.Refused n p → length buffer < trailNeed k site
+  refused-full e = by-le (trailNeed k site) (length buffer)
       (λ h. let z : _≡_ {A = ℕ} 0 1 = cc (e, w .told h) in absurd (omega arith))
       (λ h. h)
 
-  counted-fits : {f e m : ℕ} → r ≡ answer.Listed f e m → 2 * length (trailOf inUse site k) ≤ length buffer
-  counted-fits e = by-le (2 * length (trailOf inUse site k)) (length buffer)
+  counted-fits : {f e m : ℕ} → r ≡ answer.Listed f e m → trailNeed k site ≤ length buffer
+  counted-fits e = by-le (trailNeed k site) (length buffer)
       (λ h. h)
       (λ h. let z : _≡_ {A = ℕ} 0 1 = cc (e, w .full h) in absurd (omega arith))
 
@@ -49,24 +49,24 @@ module _ {site : Site} {k : ℕ} {list buffer : List ℕ} {r : Answer} (w : Sear
     unfolding searchOf
     search-full e a b =
         let h = refused-full e in
-        let t : length buffer₀ < 2 * length (trailOf inUse site k) = omega (arith, h) in
+        let t : length buffer₀ < trailNeed k site = omega (arith, h) in
         let l = zeros-as list₀ (length list) a ll in
         let m = zeros-as buffer₀ (length buffer) b lb in
         let q = w .full h in
-        rw (lt-ltb (length buffer₀) (2 * length (trailOf inUse site k)) t) (λ i. record { answer = q i; list = l i; work = cleared i; trail = m i })
+        rw (lt-ltb (length buffer₀) (trailNeed k site) t) (λ i. record { answer = q i; list = l i; work = cleared i; trail = m i })
 
     pub search-told : {f e m : ℕ} → r ≡ answer.Listed f e m → {buffer′ : List ℕ} → buffer′ ≡ zeroedFrom buffer (2 * m) → outcome (answer.Listed f e m) list work buffer′ ≡ searchOf k site list₀ work₀ buffer₀
     unfolding searchOf
     search-told {f} {e} {m} z {buffer′} cut =
         let h = counted-fits z in
-        let t : 2 * length (trailOf inUse site k) ≤ length buffer₀ = omega (arith, h) in
+        let t : trailNeed k site ≤ length buffer₀ = omega (arith, h) in
         let q = sym z ∙ w .told h in
-        let l : list ≡ padded (length list₀) (entryWords site (listOf inUse site k)) = rw (← ll) (w .listed h) in
-        let n : m ≡ length (trailOf inUse site k) = cc q in
-        let i : 2 * m ≡ length (trailWords (trailOf inUse site k)) = omega (arith, n, trail-length (trailOf inUse site k)) in
-        let b : buffer′ ≡ padded (length buffer₀) (trailWords (trailOf inUse site k)) = cut ∙ begins-zeroed buffer (trailWords (trailOf inUse site k)) i (w .trailed h) ∙ ap (λ (i : ℕ). padded i (trailWords (trailOf inUse site k))) lb in
-        rw (le-ltb (length buffer₀) (2 * length (trailOf inUse site k)) t) (λ i. record { answer = q i; list = l i; work = cleared i; trail = b i })
+        let l : list ≡ padded (length list₀) (listedWords k site) = rw (← ll) (w .listed h) in
+        let n : m ≡ met inUse site k = cc q in
+        let i : 2 * m ≡ length (metWords k site) = omega (arith, n, trail-length (trailOf inUse site k), trail-met inUse site k) in
+        let b : buffer′ ≡ padded (length buffer₀) (metWords k site) = cut ∙ begins-zeroed buffer (metWords k site) i (w .trailed h) ∙ ap (λ (i : ℕ). padded i (metWords k site)) lb in
+        rw (le-ltb (length buffer₀) (trailNeed k site) t) (λ i. record { answer = q i; list = l i; work = cleared i; trail = b i })
 
   -- the counted pairs are on the trail
   pub counted-room : {f e m : ℕ} → r ≡ answer.Listed f e m → 2 * m ≤ length buffer
-  counted-room {f} {e} {m} z = let h = counted-fits z in let n : m ≡ length (trailOf inUse site k) = cc (z, w .told h) in omega (arith, h, n)
+  counted-room {f} {e} {m} z = let h = counted-fits z in let n : m ≡ met inUse site k = cc (z, w .told h) in omega (arith, h, n)

@@ -14,6 +14,7 @@ use Rattle.site.specs.Tables.{siteOf}
 use Rattle.site.specs.declared.Context.{Context}
 use Rattle.site.specs.declared.Place.{Place}
 use Rattle.site.proofs.Measures.{in-use-lawful}
+use Rattle.site.proofs.Trail.{trail-met}
 use Rattle.trail.proofs.Loop.{Reached, loop-goes, loop-ends, loop-prefix}
 use Rattle.tables.specs.Sound.{Sound}
 use Rattle.tables.proofs.Sound.{sound-rises}
@@ -96,9 +97,9 @@ module _ {os cs : List ℕ} (s : Sound os cs) {k j : ℕ} {list₀ work₀ buffe
           let l = ap length t ∙ length-append (metAfter inUse site (j + 1)) _ in
           record {
             full = λ z. refl;
-            told = λ z. absurd (omega (arith, l, after .kept .met));
-            listed = λ z. absurd (omega (arith, l, after .kept .met));
-            trailed = λ z. absurd (omega (arith, l, after .kept .met));
+            told = λ z. absurd (omega (arith, l, after .kept .met, trail-met inUse site k));
+            listed = λ z. absurd (omega (arith, l, after .kept .met, trail-met inUse site k));
+            trailed = λ z. absurd (omega (arith, l, after .kept .met, trail-met inUse site k));
           }
 
   -- ---- none is due: the search has its answer
@@ -110,9 +111,9 @@ module _ {os cs : List ℕ} (s : Sound os cs) {k j : ℕ} {list₀ work₀ buffe
       let a = loop-ends in-use-lawful (sound-rises s) k (firstEvents site j) (drop j (eventsOf inUse site)) (split-at site j) (w .reached) (due-end site k j (sound-rises s) d) in
       let found = rw (← (a .listed)) at (w .after .kept .listed .count) in
       let events = sym (ap length (a .events) ∙ done-length s (w .agenda)) in
-      let met = rw (← (a .trailed)) at (w .after .kept .met) in
+      let met = rw (← (a .trailed)) at (w .after .kept .met) ∙ trail-met inUse site k in
       record {
-        full = λ h. absurd (omega (arith, w .fits, ap length (a .trailed)));
+        full = λ h. absurd (omega (arith, w .fits, ap length (a .trailed), trail-met inUse site k));
         told = λ h i. answer.Listed (found i) (events i) (met i);
         listed = λ h. rw (a .listed) (w .after .kept .listed .holds);
         trailed = λ h. rw (a .trailed) (w .after .kept .trailed (w .fits));

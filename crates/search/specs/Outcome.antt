@@ -8,7 +8,7 @@ use lib.Dec.{ltb}
 use lib.ListN.{length, replicate}
 use Rattle.site.specs.Measure.{inUse}
 use Rattle.site.specs.Site.{Site, Pair, listOf}
-use Rattle.site.specs.Events.{eventsDone, trail as trailOf}
+use Rattle.site.specs.Events.{found, events, met, trail as trailOf}
 use Rattle.words.specs.Words.{flat, padded}
 use Rattle.entries.specs.Listed.{entryWords}
 use Rattle.search.specs.declared.Answer.{Answer}
@@ -51,13 +51,29 @@ numbers p = p .lower ∷ p .higher ∷ []
 abbrev pub trailWords : List Pair → List ℕ
 trailWords pairs = flat numbers pairs
 
--- found, events and met
+-- the three counts
+abbrev pub threeCounts : ℕ → Site → List ℕ
+threeCounts k site = found inUse site k ∷ events inUse site k ∷ met inUse site k ∷ []
+
+-- the answer that tells them
 abbrev pub counted : ℕ → Site → Answer
-counted k site = answer.Listed (length (listOf inUse site k)) (length (eventsDone inUse site k)) (length (trailOf inUse site k))
+counted k site = answer.Listed (found inUse site k) (events inUse site k) (met inUse site k)
+
+-- the words that the whole trail needs
+abbrev pub trailNeed : ℕ → Site → ℕ
+trailNeed k site = 2 * met inUse site k
+
+-- the words of the list's entries
+abbrev pub listedWords : ℕ → Site → List ℕ
+listedWords k site = entryWords site (listOf inUse site k)
+
+-- and those of the trail's pairs
+abbrev pub metWords : ℕ → Site → List ℕ
+metWords k site = trailWords (trailOf inUse site k)
 
 -- 8 where the whole trail does not fit, and then all zeros; else the counts, the list and the trail with zeros behind, and a work area of zeros
 unfoldable pub searchOf : ℕ → Site → List ℕ → List ℕ → List ℕ → Outcome
 searchOf k site list work trail =
-    cond (ltb (length trail) (2 * length (trailOf inUse site k)))
+    cond (ltb (length trail) (trailNeed k site))
     (outcome (answer.Refused 8 0) (zeros list) (zeros work) (zeros trail))
-    (outcome (counted k site) (padded (length list) (entryWords site (listOf inUse site k))) (zeros work) (padded (length trail) (trailWords (trailOf inUse site k))))
+    (outcome (counted k site) (padded (length list) (listedWords k site)) (zeros work) (padded (length trail) (metWords k site)))

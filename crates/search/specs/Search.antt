@@ -10,8 +10,8 @@ use lib.ListN.{length, getElem?, take, drop}
 use Rattle.site.specs.Ratio.{Ratio, reaches}
 use Rattle.site.specs.Measure.{inUse}
 use Rattle.order.specs.Order.{_∈_}
-use Rattle.site.specs.Site.{Site, Rising, Pair, codesOf, shared, listOf}
-use Rattle.site.specs.Events.{Event, Occurs, codeAt, firstPlace, pairOf, ceilingAt, cutOf, eventsOf, metAfter, trail as trailOf}
+use Rattle.site.specs.Site.{Site, Rising, Pair, codesOf, shared}
+use Rattle.site.specs.Events.{Event, Occurs, codeAt, firstPlace, pairOf, ceilingAt, cutOf, eventsOf, metAfter}
 use Rattle.site.specs.declared.Context.{Context}
 use Rattle.site.specs.declared.Place.{Place}
 use Rattle.words.specs.Words.{Holds, Begins}
@@ -20,9 +20,9 @@ use Rattle.agenda.specs.Layout.{agendaRoom}
 use Rattle.agenda.specs.Next.{eventIs}
 use Rattle.entries.specs.Entries.{entryOf}
 use Rattle.entries.specs.declared.Entry.{Entry}
-use Rattle.entries.specs.Listed.{entryWords, Listed, Proper}
-use Rattle.search.specs.Outcome.{trailWords, counted}
-use Rattle.search.specs.declared.Pair.{Pair as TwoContexts}
+use Rattle.entries.specs.Listed.{Listed, Proper}
+use Rattle.search.specs.Outcome.{trailWords, counted, trailNeed, listedWords, metWords}
+use Rattle.search.specs.declared.TwoContexts.{TwoContexts}
 use Rattle.search.specs.declared.Counts.{Counts}
 use Rattle.search.specs.declared.Answer.{Answer}
 use Rattle.search.specs.declared.Answer.the-variants as answer
@@ -134,7 +134,7 @@ dueOf site k j = reaching site (cutOf inUse site k (metAfter inUse site j)) (get
 
 -- at the end: 8 where the trail does not fit; else the counts, and list and trail are written
 pub record Searched (site : Site) (k : ℕ) (list buffer : List ℕ) (r : Answer) : Type 0 where
-  pub full : length buffer < 2 * length (trailOf inUse site k) → r ≡ answer.Refused 8 0
-  pub told : 2 * length (trailOf inUse site k) ≤ length buffer → r ≡ counted k site
-  pub listed : 2 * length (trailOf inUse site k) ≤ length buffer → Holds list (entryWords site (listOf inUse site k))
-  pub trailed : 2 * length (trailOf inUse site k) ≤ length buffer → Begins buffer (trailWords (trailOf inUse site k))
+  pub full : length buffer < trailNeed k site → r ≡ answer.Refused 8 0
+  pub told : trailNeed k site ≤ length buffer → r ≡ counted k site
+  pub listed : trailNeed k site ≤ length buffer → Holds list (listedWords k site)
+  pub trailed : trailNeed k site ≤ length buffer → Begins buffer (metWords k site)

@@ -9,7 +9,7 @@ ghost use Prim.Native.Nat.{_+_, _*_, _≤_, _<_};
 ghost use lib.ListN.{length, set, getElem?};
 ghost use Rattle.site.specs.Measure.{inUse};
 ghost use Rattle.site.specs.Ratio.{reaches};
-ghost use Rattle.site.specs.Site.{codesOf, Pair as Couple};
+ghost use Rattle.site.specs.Site.{codesOf, Pair};
 ghost use Rattle.site.specs.Events.{Occurs, codeAt, ceilingAt, cutOf, eventsOf, pairOf, metAfter};
 ghost use Rattle.site.specs.Tables.{siteAt, siteIn};
 ghost use Rattle.tables.specs.Sound.{Sound};
@@ -90,7 +90,7 @@ struct Turned {
 }
 
 // Two contexts, the one with the smaller number first.
-pub struct Pair {
+pub struct TwoContexts {
     pub lower: Context,
     pub higher: Context,
 }
@@ -126,16 +126,16 @@ fn enter(k: usize, list: &mut [u16], trail: &mut [u16], counts: Counts, e: Entry
 }
 
 // The pair of two contexts.
-fn ordered(a: Context, b: Context) -> Pair
+fn ordered(a: Context, b: Context) -> TwoContexts
     ensures { λ r. ⌜ pairIs r ≡ pairOf (contextIs a) (contextIs b) ⌝ }
 {
     if a.0 < b.0 {
-        Pair {
+        TwoContexts {
             lower: a,
             higher: b,
         }
     } else {
-        Pair {
+        TwoContexts {
             lower: b,
             higher: a,
         }
@@ -261,7 +261,7 @@ fn met_before(offsets: &[u16], codes: &[u16], work: &[u16], c: Context, d: Conte
     requires { ⌜ Sound (now offsets) (now codes) ⌝ }
     requires { ⌜ (c .0 + 1 < length (now offsets)) × (d .0 + 1 < length (now offsets)) ⌝ }
     requires { ⌜ 10240 ≤ length (now work) ⌝ }
-    ensures { λ r. ⌜ (r ≡ true → (pairs : List Couple) → Proper (siteAt offsets codes) pairs → Seen (siteAt offsets codes) pairs (now (work .entry)) → pairOf (contextIs c) (contextIs d) ∈ pairs) ⌝ }
+    ensures { λ r. ⌜ (r ≡ true → (pairs : List Pair) → Proper (siteAt offsets codes) pairs → Seen (siteAt offsets codes) pairs (now (work .entry)) → pairOf (contextIs c) (contextIs d) ∈ pairs) ⌝ }
 {
     if offsets.len() > MOST + 1 {
         return false;
@@ -278,7 +278,7 @@ fn note_pair(offsets: &[u16], codes: &[u16], work: &mut [u16], c: Context, d: Co
     requires { ⌜ 10240 ≤ length (now work) ⌝ }
     ensures { λ _. ⌜ agendaPart (now (work .exit)) ≡ agendaPart (now (work .entry)) ⌝ }
     ensures { λ _. ⌜ marksPart (now (work .exit)) ≡ marksPart (now (work .entry)) ⌝ }
-    ensures { λ _. ⌜ ((pairs : List Couple) → Seen (siteAt offsets codes) pairs (now (work .entry)) → Seen (siteAt offsets codes) (pairs ++ pairOf (contextIs c) (contextIs d) ∷ []) (now (work .exit))) ⌝ }
+    ensures { λ _. ⌜ ((pairs : List Pair) → Seen (siteAt offsets codes) pairs (now (work .entry)) → Seen (siteAt offsets codes) (pairs ++ pairOf (contextIs c) (contextIs d) ∷ []) (now (work .exit))) ⌝ }
 {
     if offsets.len() <= MOST + 1 {
         let x = pair_number(c, d);
@@ -436,7 +436,7 @@ fn stops(
     requires { ⌜ Sound (now offsets) (now codes) × Occurs (siteIn offsets codes) (eventIs c p) ⌝ }
     requires { ⌜ (0 < k) × (k ≤ 64) ⌝ }
     requires { ⌜ width * k ≤ length (now list) ⌝ }
-    ensures { λ r. ⌜ ((pairs : List Couple) → Proper (siteAt offsets codes) pairs → Listed (siteAt offsets codes) k pairs (now (list .entry)) found
+    ensures { λ r. ⌜ ((pairs : List Pair) → Proper (siteAt offsets codes) pairs → Listed (siteAt offsets codes) k pairs (now (list .entry)) found
         → r ≡ not (reaches (cutOf inUse (siteAt offsets codes) k pairs) (ceilingAt inUse (siteAt offsets codes) (eventIs c p)))) ⌝ }
 {
     let part = context(offsets, codes, c);

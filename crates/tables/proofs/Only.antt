@@ -1,5 +1,5 @@
 -- One answer only: two results that meet a function's contract are equal. `Post` is the contract itself, as it is read from the code.
-use mathlib.Core.Path.{_≡_, sym, _∙_}
+use mathlib.Core.Path.{sym, _∙_}
 use Rattle.words.proofs.OneAnswer.{OneAnswer}
 use Rattle.tables.proofs.check_tables.Kinds as check-tables-kinds
 use Rattle.tables.proofs.check_tables.Reads as check-tables

@@ -1,5 +1,5 @@
 -- One answer only: two results or buffers that meet a contract are equal. `Post` is the contract itself, as it is read from the code.
-use mathlib.Core.Path.{_≡_, sym, _∙_}
+use mathlib.Core.Path.{sym, _∙_}
 use Rattle.words.proofs.OneAnswer.{OneAnswer}
 use Rattle.words.proofs.zero_words.Kinds as zero-words-kinds
 use Rattle.words.proofs.zero_words.Reads as zero-words
