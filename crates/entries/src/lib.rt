@@ -7,7 +7,8 @@ ghost use lib.ListN.{length, take, drop};
 ghost use Rattle.order.specs.Order.{kth};
 ghost use Rattle.site.specs.Site.{numbersBefore};
 ghost use Rattle.order.specs.Order.{rankOf};
-ghost use Rattle.entries.specs.Entries.{width, words, entryPair, entryAt, entries, similarityOf, entryBefore, Ordered, insertedWords, Inserts, belowEntry};
+ghost use Rattle.entries.specs.Entries.{width, words, entryPair, entryAt, entries, similarityOf, entryBefore, Ordered};
+ghost use Rattle.entries.specs.Entries.{insertedWords, Inserts, belowEntry};
 use site::Context;
 use walk::Fraction;
 use walk::below;
@@ -119,7 +120,8 @@ fn find_rank(list: &[u16], found: usize, e: Entry) -> usize
 // Moves the words from a up to b up by an entry, the last one first.
 fn shift(list: &mut [u16], a: usize, b: usize)
     requires { ⌜ (a ≤ b) × (b + width ≤ length (now list)) ⌝ }
-    ensures { λ _. ⌜ now (list .exit) ≡ take (a + width) (now (list .entry)) ++ take (b - a) (drop a (now (list .entry))) ++ drop (b + width) (now (list .entry)) ⌝ }
+    ensures { λ _. ⌜ now (list .exit)
+        ≡ take (a + width) (now (list .entry)) ++ take (b - a) (drop a (now (list .entry))) ++ drop (b + width) (now (list .entry)) ⌝ }
 {
     let mut j = b;
     while j > a {

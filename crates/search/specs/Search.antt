@@ -6,7 +6,7 @@ use mathlib.Core.Option.{Option, none, some}
 use mathlib.Core.Path.{_≡_}
 use Prim.Native.Nat.{ℕ, _+_, _*_, _≤_, _<_}
 use lib.Dec.{eqb}
-use lib.ListN.{length, getElem?, take, drop}
+use lib.ListN.{length, getElem?, set, take, drop}
 use Rattle.site.specs.Ratio.{Ratio, reaches}
 use Rattle.site.specs.Measure.{inUse}
 use Rattle.order.specs.Order.{_∈_}
@@ -94,7 +94,19 @@ pairNumber p = most * p .lower + p .higher
 abbrev pub Seen : Site → List Pair → List ℕ → Type 0
 Seen site pairs work = length site ≤ most → pairsPart work ≡ marksOf pairWords (map pairNumber pairs)
 
+-- by them the pair of two contexts is one that was met
+abbrev pub MetBefore : Site → Context → Context → List ℕ → Type 0
+MetBefore site c d work = (pairs : List Pair) → Proper site pairs → Seen site pairs work → pairOf (contextIs c) (contextIs d) ∈ pairs
+
+-- and now it is
+abbrev pub Noted : Site → Context → Context → List ℕ → List ℕ → Type 0
+Noted site c d work work′ = (pairs : List Pair) → Seen site pairs work → Seen site (pairs ++ pairOf (contextIs c) (contextIs d) ∷ []) work′
+
 -- ---- the list and the trail
+
+-- the trail with an entry's contexts behind the `met` pairs on it
+abbrev pub withContexts : List ℕ → ℕ → Entry → List ℕ
+withContexts trail met e = set (set trail (2 * met) (e .lower .0)) (2 * met + 1) (e .higher .0)
 
 -- the pair of two contexts
 abbrev pub pairIs : TwoContexts → Pair
@@ -108,7 +120,8 @@ pub record Kept (site : Site) (k : ℕ) (pairs : List Pair) (list buffer : List 
 
 -- more pairs are taken up, whatever the buffers hold
 abbrev pub Takes : Site → ℕ → List Pair → List ℕ → List ℕ → Counts → List ℕ → List ℕ → Counts → Type 0
-Takes site k more list buffer n list′ buffer′ n′ = (pairs : List Pair) → Proper site (pairs ++ more) → Kept site k pairs list buffer n → Kept site k (pairs ++ more) list′ buffer′ n′
+Takes site k more list buffer n list′ buffer′ n′ =
+    (pairs : List Pair) → Proper site (pairs ++ more) → Kept site k pairs list buffer n → Kept site k (pairs ++ more) list′ buffer′ n′
 
 -- after some pairs, what is kept of them and their marks
 pub record After (site : Site) (k : ℕ) (pairs : List Pair) (list work buffer : List ℕ) (n : Counts) : Type 0 where
@@ -117,11 +130,17 @@ pub record After (site : Site) (k : ℕ) (pairs : List Pair) (list work buffer :
 
 -- more pairs are met, whatever the buffers hold
 abbrev pub Meets : Site → ℕ → List Pair → List ℕ → List ℕ → List ℕ → Counts → List ℕ → List ℕ → List ℕ → Counts → Type 0
-Meets site k more list work buffer n list′ work′ buffer′ n′ = (pairs : List Pair) → Proper site (pairs ++ more) → After site k pairs list work buffer n → After site k (pairs ++ more) list′ work′ buffer′ n′
+Meets site k more list work buffer n list′ work′ buffer′ n′ =
+    (pairs : List Pair) → Proper site (pairs ++ more) → After site k pairs list work buffer n → After site k (pairs ++ more) list′ work′ buffer′ n′
+
+-- so many events are done
+abbrev pub AfterEvents : Site → ℕ → ℕ → List ℕ → List ℕ → List ℕ → Counts → Type 0
+AfterEvents site k events list work buffer n = After site k (metAfter inUse site events) list work buffer n
 
 -- a pair is taken up whose entry is e
 abbrev pub TakesEntry : ℕ → Entry → List ℕ → List ℕ → Counts → List ℕ → List ℕ → Counts → Type 0
-TakesEntry k e list buffer n list′ buffer′ n′ = (site : Site) → Rising site → (p : Pair) → e ≡ entryOf site p → Takes site k (p ∷ []) list buffer n list′ buffer′ n′
+TakesEntry k e list buffer n list′ buffer′ n′ =
+    (site : Site) → Rising site → (p : Pair) → e ≡ entryOf site p → Takes site k (p ∷ []) list buffer n list′ buffer′ n′
 
 -- an event, if its ceiling reaches a cut-off
 abbrev pub reaching : Site → Option Ratio → Option Event → Option Event

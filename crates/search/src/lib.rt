@@ -4,16 +4,15 @@
 // entries for the list. Of the work area it knows that the agenda's words come first and the marks behind them.
 ghost use mathlib.Core.Path.{_≡_};
 ghost use mathlib.Core.Bool.{not, true, false};
-ghost use mathlib.Core.List.{List, [], _∷_, _++_};
+ghost use mathlib.Core.List.{List, []};
 ghost use Prim.Native.Nat.{_+_, _*_, _≤_, _<_};
-ghost use lib.ListN.{length, set, getElem?};
+ghost use lib.ListN.{length, getElem?};
 ghost use Rattle.site.specs.Measure.{inUse};
 ghost use Rattle.site.specs.Ratio.{reaches};
 ghost use Rattle.site.specs.Site.{codesOf, Pair};
 ghost use Rattle.site.specs.Events.{Occurs, codeAt, ceilingAt, cutOf, eventsOf, pairOf, metAfter};
 ghost use Rattle.site.specs.Tables.{siteAt, siteIn};
 ghost use Rattle.tables.specs.Sound.{Sound};
-ghost use Rattle.order.specs.Order.{_∈_};
 ghost use Rattle.marks.specs.Marks.{codeWords, marksOf};
 ghost use Rattle.entries.specs.Entries.{width, entryOf, Ordered};
 ghost use Rattle.entries.specs.Listed.{Listed, Proper};
@@ -21,7 +20,9 @@ ghost use Rattle.agenda.specs.Agenda.{postedOf, Agenda};
 ghost use Rattle.agenda.specs.Postings.{postedIs};
 ghost use Rattle.agenda.specs.Next.{nextIs, eventIs};
 ghost use Rattle.agenda.specs.declared.Next.the-variants.{At};
-ghost use Rattle.search.specs.Search.{most, pairWords, contextIs, pairIs, Beside, sharedBy, firstHere, sharedHere, metWith, agendaPart, marksPart, pairsPart, Remarked, Laid, pairNumber, Seen, dueOf, After, Meets, TakesEntry, Searched};
+ghost use Rattle.search.specs.Search.{most, pairWords, contextIs, pairIs, Beside, sharedBy, firstHere, sharedHere, metWith};
+ghost use Rattle.search.specs.Search.{agendaPart, marksPart, pairsPart, Remarked, Laid, pairNumber, MetBefore, Noted};
+ghost use Rattle.search.specs.Search.{withContexts, dueOf, AfterEvents, Meets, TakesEntry, Searched};
 ghost use Rattle.search.specs.Outcome.{outcome, zeros, searchOf};
 use agenda::Next;
 use agenda::Posted;
@@ -99,7 +100,7 @@ pub struct TwoContexts {
 fn put_pair(trail: &mut [u16], met: usize, e: Entry)
     requires { ⌜ met ≤ 16777216 ⌝ }
     ensures { λ _. ⌜ (length (now (trail .entry)) < 2 * met + 2 → now (trail .exit) ≡ now (trail .entry)) ⌝ }
-    ensures { λ _. ⌜ (2 * met + 2 ≤ length (now (trail .entry)) → now (trail .exit) ≡ set (set (now (trail .entry)) (2 * met) (e .lower .0)) (2 * met + 1) (e .higher .0)) ⌝ }
+    ensures { λ _. ⌜ (2 * met + 2 ≤ length (now (trail .entry)) → now (trail .exit) ≡ withContexts (now (trail .entry)) met e) ⌝ }
 {
     let at = 2 * met;
     if at + 2 <= trail.len() {
@@ -261,7 +262,7 @@ fn met_before(offsets: &[u16], codes: &[u16], work: &[u16], c: Context, d: Conte
     requires { ⌜ Sound (now offsets) (now codes) ⌝ }
     requires { ⌜ (c .0 + 1 < length (now offsets)) × (d .0 + 1 < length (now offsets)) ⌝ }
     requires { ⌜ 10240 ≤ length (now work) ⌝ }
-    ensures { λ r. ⌜ (r ≡ true → (pairs : List Pair) → Proper (siteAt offsets codes) pairs → Seen (siteAt offsets codes) pairs (now (work .entry)) → pairOf (contextIs c) (contextIs d) ∈ pairs) ⌝ }
+    ensures { λ r. ⌜ (r ≡ true → MetBefore (siteAt offsets codes) c d (now (work .entry))) ⌝ }
 {
     if offsets.len() > MOST + 1 {
         return false;
@@ -278,7 +279,7 @@ fn note_pair(offsets: &[u16], codes: &[u16], work: &mut [u16], c: Context, d: Co
     requires { ⌜ 10240 ≤ length (now work) ⌝ }
     ensures { λ _. ⌜ agendaPart (now (work .exit)) ≡ agendaPart (now (work .entry)) ⌝ }
     ensures { λ _. ⌜ marksPart (now (work .exit)) ≡ marksPart (now (work .entry)) ⌝ }
-    ensures { λ _. ⌜ ((pairs : List Pair) → Seen (siteAt offsets codes) pairs (now (work .entry)) → Seen (siteAt offsets codes) (pairs ++ pairOf (contextIs c) (contextIs d) ∷ []) (now (work .exit))) ⌝ }
+    ensures { λ _. ⌜ Noted (siteAt offsets codes) c d (now (work .entry)) (now (work .exit)) ⌝ }
 {
     if offsets.len() <= MOST + 1 {
         let x = pair_number(c, d);
@@ -307,7 +308,9 @@ fn step(
     requires { ⌜ (progress .counts .found ≤ k) × (progress .counts .met ≤ 16777216) ⌝ }
     requires { ⌜ Ordered (now list) (progress .counts .found) ⌝ }
     requires { ⌜ (10240 ≤ length (now work)) × Laid (siteIn offsets codes) c (progress .marked) (now work) ⌝ }
-    ensures { λ r. ⌜ Meets (siteAt offsets codes) k (metWith (siteAt offsets codes) c p d) (now (list .entry)) (now (work .entry)) (now (trail .entry)) (progress .counts) (now (list .exit)) (now (work .exit)) (now (trail .exit)) (r .counts) ⌝ }
+    ensures { λ r. ⌜ Meets (siteAt offsets codes) k (metWith (siteAt offsets codes) c p d)
+        (now (list .entry)) (now (work .entry)) (now (trail .entry)) (progress .counts)
+        (now (list .exit)) (now (work .exit)) (now (trail .exit)) (r .counts) ⌝ }
     ensures { λ r. ⌜ agendaPart (now (work .exit)) ≡ agendaPart (now (work .entry)) ⌝ }
     ensures { λ r. ⌜ Laid (siteAt offsets codes) c (r .marked) (now (work .exit)) ⌝ }
 {
@@ -397,8 +400,8 @@ fn turn(
     requires { ⌜ (10240 ≤ length (now work)) × Agenda (siteIn offsets codes) events (agendaPart (now work)) ⌝ }
     requires { ⌜ nextIs (getElem? (eventsOf inUse (siteIn offsets codes)) events) ≡ At c p ⌝ }
     requires { ⌜ (k ≤ 64) × (width * k ≤ length (now list)) ⌝ }
-    requires { ⌜ After (siteIn offsets codes) k (metAfter inUse (siteIn offsets codes) events) (now list) (now work) (now trail) counts ⌝ }
-    ensures { λ r. ⌜ After (siteAt offsets codes) k (metAfter inUse (siteAt offsets codes) (events + 1)) (now (list .exit)) (now (work .exit)) (now (trail .exit)) (r .counts) ⌝ }
+    requires { ⌜ AfterEvents (siteIn offsets codes) k events (now list) (now work) (now trail) counts ⌝ }
+    ensures { λ r. ⌜ AfterEvents (siteAt offsets codes) k (events + 1) (now (list .exit)) (now (work .exit)) (now (trail .exit)) (r .counts) ⌝ }
     ensures { λ r. ⌜ agendaPart (now (work .exit)) ≡ agendaPart (now (work .entry)) ⌝ }
     ensures { λ r. ⌜ r .earlier ≡ length (postedOf (siteAt offsets codes) events (codeAt (siteAt offsets codes) (eventIs c p))) ⌝ }
 {
@@ -559,8 +562,8 @@ fn do_event(
     requires { ⌜ (10240 ≤ length (now work)) × Agenda (siteIn offsets codes) events (agendaPart (now work)) ⌝ }
     requires { ⌜ nextIs (getElem? (eventsOf inUse (siteIn offsets codes)) events) ≡ At c p ⌝ }
     requires { ⌜ (k ≤ 64) × (width * k ≤ length (now list)) ⌝ }
-    requires { ⌜ After (siteIn offsets codes) k (metAfter inUse (siteIn offsets codes) events) (now list) (now work) (now trail) counts ⌝ }
-    ensures { λ r. ⌜ After (siteAt offsets codes) k (metAfter inUse (siteAt offsets codes) (events + 1)) (now (list .exit)) (now (work .exit)) (now (trail .exit)) r ⌝ }
+    requires { ⌜ AfterEvents (siteIn offsets codes) k events (now list) (now work) (now trail) counts ⌝ }
+    ensures { λ r. ⌜ AfterEvents (siteAt offsets codes) k (events + 1) (now (list .exit)) (now (work .exit)) (now (trail .exit)) r ⌝ }
     ensures { λ r. ⌜ Agenda (siteAt offsets codes) (events + 1) (agendaPart (now (work .exit))) ⌝ }
 {
     let turned = turn(k, offsets, codes, list, work, trail, counts, events, c, p);
@@ -633,7 +636,8 @@ pub fn search(
     requires { ⌜ Sound (now offsets) (now codes) ⌝ }
     requires { ⌜ (0 < k) × (k ≤ 64) ⌝ }
     requires { ⌜ (width * k ≤ length (now list)) × (10240 ≤ length (now work)) ⌝ }
-    ensures { λ r. ⌜ outcome r (now (list .exit)) (now (work .exit)) (now (trail .exit)) ≡ searchOf k (siteAt offsets codes) (now (list .entry)) (now (work .entry)) (now (trail .entry)) ⌝ }
+    ensures { λ r. ⌜ outcome r (now (list .exit)) (now (work .exit)) (now (trail .exit))
+        ≡ searchOf k (siteAt offsets codes) (now (list .entry)) (now (work .entry)) (now (trail .entry)) ⌝ }
 {
     clear(list);
     let told = run(k, offsets, codes, list, work, trail);

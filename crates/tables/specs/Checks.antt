@@ -43,4 +43,5 @@ codesCheck offsets codes = earliest (codeRule offsets codes) 0 (length codes)
 
 -- 1 and 2, then 3, then 4 and 5
 unfoldable pub tablesCheck : ℕ → List ℕ → List ℕ → Check
-tablesCheck k offsets codes = sizesCheck k (length offsets) (length codes) andThen (offsetsCheck offsets (length codes) andThen codesCheck offsets codes)
+tablesCheck k offsets codes =
+    sizesCheck k (length offsets) (length codes) andThen (offsetsCheck offsets (length codes) andThen codesCheck offsets codes)
