@@ -6,14 +6,30 @@
 A public function owes an `ensures` that speaks of its result and, for each buffer that is lent to
 it by `&mut`, of what the buffer holds in the end (`.exit`). It also owes a theorem that no second
 answer meets its contract: by convention `FN-only` in crates/NAME/proofs/Only.antt, where the
-underscores of the function's name are `-`. A function without such a theorem is named as
-`crate::fn`, with a reason, in the section '## Exceptions' of docs/PROMISES.md.
+underscores of the function's name are `-`. The theorem is an `OneAnswer` over the function's own
+contract, its `Post`, and its view sees the result and every lent buffer. A function without such a
+theorem is named as `crate::fn`, with a reason, in the section '## Exceptions' of docs/PROMISES.md.
+
+The entry points below are what users call. They take any input, so they have no `requires`.
 
 Exits with 1 if a function owes something, and if an exception names no public function.
 """
 import re
 import sys
 from pathlib import Path
+
+# Where users come in. docs/DECISIONS.md (S13) tells of the list.
+ENTRY_POINTS = {
+    "join::join",
+    "reader::read",
+    "writer::write",
+    "listing::list_sheet",
+    "listing::print_sheet",
+    "host::sazamkhri_listing",
+    "probe::probe_join",
+    "probe::probe_read",
+    "probe::probe_write",
+}
 
 PUBLIC = re.compile(r'\bpub\s+(?:extern\s+"C"\s+)?fn\s+(\w+)')
 CLAUSE = re.compile(r"\b(requires|ensures|decreases)\b[\s\w-]*$")
@@ -36,11 +52,11 @@ def closing(text, at, pair):
 
 
 def header(text, at):
-    """The parameters, whether there is a result, and the `ensures` of the function named at `at`."""
+    """The parameters, whether there is a result, and the clauses of the function named at `at`."""
     start = text.index("(", at)
     end = closing(text, start, "()")
     parameters = text[start + 1 : end]
-    promises = []
+    clauses = {"requires": [], "ensures": [], "decreases": []}
     before = end + 1
     has_result = None
     while True:
@@ -50,11 +66,22 @@ def header(text, at):
             has_result = "->" in between
         clause = CLAUSE.search(between)
         if clause is None:
-            return parameters, has_result, promises
+            return parameters, has_result, clauses
         close = closing(text, brace, "{}")
-        if clause.group(1) == "ensures":
-            promises.append(text[brace + 1 : close])
+        clauses[clause.group(1)].append(text[brace + 1 : close])
         before = close + 1
+
+
+def parameters_of(text):
+    """The parameters one by one: name, and whether it is lent by `&mut`."""
+    parts, depth, last = [], 0, 0
+    for i, c in enumerate(text + ","):
+        depth += (c in "([<") - (c in ")]>")
+        if c == "," and depth == 0:
+            parts.append((text + ",")[last:i].strip())
+            last = i + 1
+    named = [p.partition(":") for p in parts if p]
+    return [(n.strip(), re.match(r"\s*&\s*(?:'\w+\s+)?mut\b", kind) is not None) for n, _, kind in named]
 
 
 def speaks_of_result(promise):
@@ -72,7 +99,7 @@ def contract_problems(parameters, has_result, promises):
     problems = []
     if has_result and not any(speaks_of_result(p) for p in promises):
         problems.append("no `ensures` speaks of the result")
-    lent = re.findall(r"(\w+)\s*:\s*&\s*(?:'\w+\s+)?mut\b", parameters)
+    lent = [name for name, is_mut in parameters_of(parameters) if is_mut]
     for name in lent:
         if not any(re.search(rf"\b{name}\s*\.exit\b", p) for p in promises):
             problems.append(f"no `ensures` speaks of `{name}` in the end")
@@ -101,20 +128,55 @@ def exceptions(root):
 
 
 def theorems(crate):
+    """The `FN-only` theorems of a crate, each with its statement; and what each module is called there."""
     file = crate / "proofs" / "Only.antt"
     if not file.is_file():
-        return set()
+        return {}, {}
+    text = re.sub(r"--[^\n]*", "", file.read_text(encoding="utf-8"))
+    stated = re.compile(r"^[ \t]*(?:pub\s+)?([^\s:]+-only)\s*:(?=\s)(.*?)^[ \t]*\1\s", re.M | re.S)
+    names = re.findall(r"^use Rattle·\w+·proofs\.proofs\.(\S+) as (\S+)", text, re.M)
+    return {m.group(1): m.group(2) for m in stated.finditer(text)}, {alias: module for module, alias in names}
+
+
+def is_contract(crate, module, fn):
+    """The module has the contract of fn as `Post`: it is read from the code, or a file that ties it to the clauses."""
+    if module == f"{fn}.Reads":
+        return True
+    file = crate / "proofs" / f"{module}.antt"
+    if not file.is_file():
+        return False
     text = file.read_text(encoding="utf-8")
-    return set(re.findall(r"^[ \t]*(?:pub\s+)?([^\s:]+-only)(?:\s*\{[^}]*\})*\s*:(?:\s|$)", text, re.M))
+    alias = re.search(rf"^use Rattle·\w+·proofs\.proofs\.{fn} as (\S+)", text, re.M)
+    return alias is not None and f"{alias.group(1)}.clauses" in text
+
+
+def only_problems(crate, fn, statement, modules, parameters, has_result):
+    """What is wrong with a statement that no second answer meets the contract of fn."""
+    posts = re.findall(r"(\S+)\.Post\b", statement)
+    if not posts or not all(is_contract(crate, modules.get(p, p), fn) for p in posts):
+        return [f"`{fn.replace('_', '-')}-only` does not name the `Post` of {fn}"]
+    view = re.search(r"\bOneAnswer\b.*\(\s*λ\s+(\S+)\s+(\S+)\s+(\S+)\s*\.(.*)\)\s*$", statement, re.S)
+    if view is None:
+        return [f"`{fn.replace('_', '-')}-only` is no `OneAnswer` with a view"]
+    _, result, exit_, seen = view.groups()
+    problems = []
+    if has_result and not re.search(rf"(?<![\w.]){result}(?![\w])", seen):
+        problems.append("the view of its `-only` theorem does not see the result")
+    for i, (name, is_mut) in enumerate(parameters_of(parameters)):
+        path = rf"(?<![\w.]){exit_}" + r"\s+\.1" * i + r"\s+\.0\s+\.now\b"
+        if is_mut and not re.search(path, seen):
+            problems.append(f"the view of its `-only` theorem does not see `{name}`")
+    return problems
 
 
 def main(arguments):
     root = Path(arguments[0]) if arguments else Path(__file__).resolve().parent.parent
     excused = exceptions(root)
     unused = set(excused)
+    missing = set(ENTRY_POINTS)
     count = wrong = 0
     for crate in sorted(p for p in (root / "crates").glob("*") if p.is_dir()):
-        proved = theorems(crate)
+        proved, modules = theorems(crate)
         for file in sorted((crate / "src").rglob("*.rt")):
             text = blanked(file.read_text(encoding="utf-8"))
             for found in PUBLIC.finditer(text):
@@ -122,11 +184,17 @@ def main(arguments):
                 name = found.group(1)
                 full = f"{crate.name}::{name}"
                 line = text.count("\n", 0, found.start()) + 1
-                problems = contract_problems(*header(text, found.end()))
+                parameters, has_result, clauses = header(text, found.end())
+                problems = contract_problems(parameters, has_result, clauses["ensures"])
+                if full in ENTRY_POINTS:
+                    missing.discard(full)
+                    if clauses["requires"]:
+                        problems.append("an entry point has a `requires`")
                 only = name.replace("_", "-") + "-only"
                 unused.discard(full)
                 if only in proved:
                     note = only
+                    problems += only_problems(crate, name, proved[only], modules, parameters, has_result)
                 elif full in excused:
                     note = "excepted"
                     if not excused[full]:
@@ -140,6 +208,9 @@ def main(arguments):
                 wrong += len(problems)
     for full in sorted(unused):
         print(f"docs/PROMISES.md: the exception {full} is no public function")
+        wrong += 1
+    for full in sorted(missing):
+        print(f"the entry point {full} is no public function")
         wrong += 1
     if count == 0:
         print("no public functions")
