@@ -8,7 +8,11 @@ pub mod Numbers
 pub mod Lined
 -- lines behind the pen's place, one after the other: for whoever writes them
 pub mod Past
+-- two lines one after the other
+pub mod InTurn
 -- a pen in a local, as what can be lent
 pub mod PenCell
+-- a text and a pen, lent to one line
+pub mod Lending
 -- one answer only
 pub mod Only

@@ -6,6 +6,7 @@ use Prim.Native.Nat.{ℕ, _+_, _-_}
 use lib.Dec.{leb}
 use lib.ListN.{length}
 use Rattle.pen.specs.declared.Pen.{Pen}
+use Rattle.pen.specs.declared.Twice.{Twice}
 use Rattle.pen.specs.Pieces.{written}
 
 -- the pen's place and its room are those of the text
@@ -24,3 +25,9 @@ linedBy p bs text = cond (leb (length bs) (p .room)) (written text (p .place) bs
 pub record Lined (bs old now : List ℕ) (p q : Pen) : Type 0 where
   pub pen : q ≡ movedBy p (length bs)
   pub text : now ≡ linedBy p bs old
+
+-- two lines one after the other, bs and then cs: where the pen stood between them, and pen and text behind both
+pub record LinedTwice (bs cs old now : List ℕ) (p : Pen) (r : Twice) : Type 0 where
+  pub between : r .between ≡ movedBy p (length bs) .place
+  pub pen : r .pen ≡ movedBy (movedBy p (length bs)) (length cs)
+  pub text : now ≡ linedBy (movedBy p (length bs)) cs (linedBy p bs old)
