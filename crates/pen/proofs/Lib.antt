@@ -12,6 +12,8 @@ pub mod Past
 pub mod InTurn
 -- a pen in a local, as what can be lent
 pub mod PenCell
+-- slices as they are passed, and a text that is lent again
+pub mod Passed
 -- a text and a pen, lent to one line
 pub mod Lending
 -- one answer only

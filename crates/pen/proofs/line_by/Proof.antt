@@ -38,9 +38,10 @@ use Rattle.pen.specs.declared.Pen.{Pen}
 use Rattle.pen.specs.Lines.{Fits, Lined}
 use Rattle.pen.proofs.Pen as P
 use Rattle.pen.proofs.Pen.Laws as P′
-use Rattle.pen.proofs.PenCell.{R, mach}
+use Rattle.pen.proofs.PenCell.{R, mach, penned, pen-typed}
 use Rattle.pen.proofs.Past.{fits-on}
-use Rattle.pen.proofs.Lending.{Line, Passed, token, slot, Text, holding, penned, pen-typed, lends-both}
+use Rattle.pen.proofs.Passed.{Passed, token, slot, Text, holding}
+use Rattle.pen.proofs.Lending.{Line, lends-both}
 use Rattle.pen.proofs.line.Symbol as line-def
 use Rattle.pen.proofs.line.Symbol.{name as #pen·line}
 use Rattle.pen.proofs.line.Met as line-thm
