@@ -16,5 +16,7 @@ pub mod PenCell
 pub mod Passed
 -- a text and a pen, lent to one line
 pub mod Lending
+-- the contract of `line`, as a fact
+pub mod LineContract
 -- one answer only
 pub mod Only
