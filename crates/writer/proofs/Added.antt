@@ -7,8 +7,7 @@ use borrow.Author.Tests.{le-leb, lt-leb}
 use lib.ListN.{length, take, length-append}
 use Rattle.words.proofs.Split.{by-le}
 use Rattle.pen.specs.declared.Pen.{Pen}
-use Rattle.pen.specs.Lines.{Fits}
-use Rattle.pen.proofs.Past.{Past}
+use Rattle.pen.specs.Lines.{Fits, Past}
 use Rattle.writer.specs.declared.Put.{Put}
 use Rattle.writer.specs.declared.Put.the-variants.{Done, Full}
 use Rattle.writer.specs.Writes.{Added}

@@ -10,9 +10,9 @@ use Rattle.site.specs.Tables.{siteOf}
 use Rattle.site.proofs.Tables.{site-length}
 use Rattle.sheet.specs.Text.{kKey, contextsKey, cKey, lineText, contextText, numberText, linesText, sheetText}
 use Rattle.pen.specs.declared.Pen.{Pen}
-use Rattle.pen.specs.Lines.{Fits, Lined}
+use Rattle.pen.specs.Lines.{Fits, Lined, Past}
 use Rattle.pen.proofs.Grown.{Grows}
-use Rattle.pen.proofs.Past.{line-some, no-room, Past, past-none, past-line, past-full}
+use Rattle.pen.proofs.Past.{line-some, no-room, past-none, past-line, past-full}
 use Rattle.writer.specs.declared.Put.{Put}
 use Rattle.writer.specs.declared.Put.the-variants.{Full}
 use Rattle.writer.specs.Writes.{Added}
