@@ -8,6 +8,8 @@ pub mod Numbers
 pub mod Lined
 -- lines behind the pen's place, one after the other: for whoever writes them
 pub mod Past
+-- lines behind a pen, or no room for them: one line, and pieces one after the other
+pub mod Added
 -- two lines one after the other
 pub mod InTurn
 -- a pen in a local, as what can be lent

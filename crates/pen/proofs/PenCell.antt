@@ -39,8 +39,8 @@ abbrev pub cell : ℕ → Pen → Fml
 cell l z = fat fullShare P′.mir l 0 (mach z)
 
 -- a pen whose place and room are those of a text is a pen of the machine
-pub penned : (z : Pen) (zs : List ℕ) → Fits z zs → length zs < 2 ^ 64 → Is R z (mach z ∷ [])
-penned z zs f few =
+pub pen-is : (z : Pen) (zs : List ℕ) → Fits z zs → length zs < 2 ^ 64 → Is R z (mach z ∷ [])
+pen-is z zs f few =
     let place-fits : z .place < 2 ^ 64 = omega (arith, f) in
     let room-fits : z .room < 2 ^ 64 = omega (arith, f) in
     LL.owes P.the-type P′.the-laws z ((refl, place-fits), ((refl, room-fits), tt))

@@ -22,6 +22,12 @@ pub struct Twice {
     pub pen: Pen,
 }
 
+// The pen behind what was written, or that it does not fit.
+pub enum Penned {
+    On(Pen),
+    Full,
+}
+
 // How many digits n has.
 fn digit_count(n: u16) -> usize
     ensures { λ r. ⌜ r ≡ length (digitsOf n) ⌝ }

@@ -38,7 +38,7 @@ use Rattle.pen.specs.declared.Pen.{Pen}
 use Rattle.pen.specs.Lines.{Fits, Lined}
 use Rattle.pen.proofs.Pen as P
 use Rattle.pen.proofs.Pen.Laws as P′
-use Rattle.pen.proofs.PenCell.{R, mach, penned, pen-typed}
+use Rattle.pen.proofs.PenCell.{R, mach, pen-is, pen-typed}
 use Rattle.pen.proofs.Past.{fits-on}
 use Rattle.pen.proofs.Passed.{Passed, token, slot, Text, holding}
 use Rattle.pen.proofs.Lending.{Line, lends-both}
@@ -95,7 +95,7 @@ module _ {M : Type 1} (𝓤 : URA M) (H : Heap 𝓤) (A : Atoms 𝓤) (W : Given
         move ! (8 ∷ 20 ∷ 21 ∷ 22 ∷ 23 ∷ 24 ∷ 25 ∷ []) $
         lends-both 𝓤 H A W at-mem run mono known t (slot t) refl h k n l₅ ! is-pen within
         (λ ν γ g. and-then ! (load ! (from ! (stop !)) (look ! 5 refl)) (and-then ! (load ! (from ! (stop !)) (look ! 3 refl)) (and-then ! (load ! (from ! (stop !)) (look ! 14 refl)) (and-then ! (load ! (from ! (stop !)) (look ! 12 refl)) (no-more !))))) (λ z zs e same.
-        let is : Is R z (mach z ∷ []) = penned z zs (fits-on e within same) (rw same few) in
+        let is : Is R z (mach z ∷ []) = pen-is z zs (fits-on e within same) (rw same few) in
         -- [_5; the tokens; what the text owns; _9; …; _8; …; _7; …; _6; …; …; _4; …; _3; …; _2; …; _1; …; room for _0; …]
         land ! (from ! (stop !)) (init ! 11 refl (tt, tt)) $
         assigns ! (of-opd ! (load ! (from ! (stop !)) (look ! 0 refl))) (from ! (stop !)) (init ! 22 refl (pen-typed 𝓤 H A W z is)) $

@@ -42,7 +42,7 @@ use Rattle.pen.proofs.Pen as P
 use Rattle.pen.proofs.Pen.Laws as P′
 use Rattle.pen.proofs.Twice as Tw
 use Rattle.pen.proofs.Twice.Laws as Tw′
-use Rattle.pen.proofs.PenCell.{R, mach, penned, pen-typed}
+use Rattle.pen.proofs.PenCell.{R, mach, pen-is, pen-typed}
 use Rattle.pen.proofs.Past.{fits-on}
 use Rattle.pen.proofs.InTurn.{in-turn}
 use Rattle.pen.proofs.Passed.{Passed, token, slot, Text, holding}
@@ -111,7 +111,7 @@ module _ {M : Type 1} (𝓤 : URA M) (H : Heap 𝓤) (A : Atoms 𝓤) (W : Given
         lends-both 𝓤 H A W at-mem run mono known t (slot t) refl h k n l₇ ! is-pen within
         (λ ν γ g. and-then ! (load ! (from ! (stop !)) (look ! 13 refl)) (and-then ! (load ! (from ! (stop !)) (look ! 11 refl)) (and-then ! (load ! (from ! (stop !)) (look ! 28 refl)) (and-then ! (load ! (from ! (stop !)) (look ! 26 refl)) (no-more !))))) (λ z zs e same.
         let fits : Fits z zs = fits-on e within same in
-        let is : Is R z (mach z ∷ []) = penned z zs fits (rw same few) in
+        let is : Is R z (mach z ∷ []) = pen-is z zs fits (rw same few) in
         let place-fits : z .place < 2 ^ 64 = omega (arith, fits, same, few) in
         -- [_7; the first line's tokens; what the text owns; _16; …; .. _8; …; …; _6; …; .. room for _0; …; the second line's tokens; what its key and numbers own]
         land ! (from ! (stop !)) (init ! 19 refl (tt, tt)) $
@@ -123,7 +123,7 @@ module _ {M : Type 1} (𝓤 : URA M) (H : Heap 𝓤) (A : Atoms 𝓤) (W : Given
         move ! (0 ∷ 1 ∷ 38 ∷ 39 ∷ 4 ∷ 40 ∷ 41 ∷ []) $
         lends-both 𝓤 H A W at-mem run mono known (holding t zs) (slot t) (ap (λ (m : ℕ). sliceVal (t .ref .ptr) m ∷ []) (sym same)) z k′ n′ l₇ ! is fits
         (λ ν γ g. and-then ! (load ! (from ! (stop !)) (look ! 9 refl)) (and-then ! (load ! (from ! (stop !)) (look ! 7 refl)) (and-then ! (load ! (from ! (stop !)) (look ! 26 refl)) (and-then ! (load ! (from ! (stop !)) (look ! 24 refl)) (no-more !))))) (λ y ys f as-long.
-        let is-y : Is R y (mach y ∷ []) = penned y ys (fits-on f fits as-long) (rw (as-long, same) few) in
+        let is-y : Is R y (mach y ∷ []) = pen-is y ys (fits-on f fits as-long) (rw (as-long, same) few) in
         let r : Twice = record { between = z .place; pen = y } in
         let is-r : Is B r (both r ∷ []) = LL.owes Tw.the-type Tw′.the-laws r ((refl, place-fits), (is-y, tt)) in
         -- [_7; the tokens of text and second line; what the text owns; the first line's tokens; _16; …; .. _8; …; …; _6; …; .. room for _0; …]
