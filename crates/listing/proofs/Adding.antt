@@ -11,9 +11,9 @@ use Rattle.entries.specs.Entries.{width, words, entryAt, entriesFrom, entries}
 use Rattle.entries.proofs.Reading.{length-entries, flat-entries, entries-at}
 use Rattle.sheet.specs.Text.{lineText}
 use Rattle.pen.specs.declared.Pen.{Pen}
-use Rattle.pen.specs.Lines.{Fits, Lined}
+use Rattle.pen.specs.Lines.{Fits, Lined, Past}
 use Rattle.pen.proofs.Grown.{Grows}
-use Rattle.pen.proofs.Past.{line-some, no-room, Past, past-none, past-line, Grown, grown-start, grown-next, grown-full, grown-end}
+use Rattle.pen.proofs.Past.{line-some, no-room, past-none, past-line, Grown, grown-start, grown-next, grown-full, grown-end}
 use Rattle.listing.specs.Listing.{pairKey, entryText, entriesText}
 use Rattle.listing.specs.Answers.{Added}
 use Rattle.listing.specs.declared.Penned.{Penned}

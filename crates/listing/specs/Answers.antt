@@ -11,7 +11,7 @@ use Rattle.words.specs.Words.{padded}
 use Rattle.entries.specs.Entries.{width}
 use Rattle.entries.specs.Listed.{entryWords}
 use Rattle.pen.specs.declared.Pen.{Pen}
-use Rattle.pen.proofs.Past.{Past}
+use Rattle.pen.specs.Lines.{Past}
 use Rattle.sheet.specs.Read.{Read, value, refused}
 use Rattle.sheet.specs.Reading.{Sheet}
 use Rattle.listing.specs.declared.Listing.{Listing}

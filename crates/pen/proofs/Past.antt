@@ -12,7 +12,7 @@ use Rattle.words.proofs.Split.{by-le}
 use Rattle.sheet.specs.Text.{lineText}
 use Rattle.pen.specs.declared.Pen.{Pen}
 use Rattle.pen.specs.Pieces.{written}
-use Rattle.pen.specs.Lines.{Fits, movedBy, linedBy, Lined}
+use Rattle.pen.specs.Lines.{Fits, movedBy, linedBy, Lined, Past}
 use Rattle.pen.proofs.Written.{written-long, written-front}
 use Rattle.pen.proofs.Grown.{Grows, one-more, piece-fits}
 use Rattle.pen.proofs.Lined.{line-length}
@@ -48,13 +48,7 @@ module _ {bs old now : List ℕ} {p q : Pen} (w : Lined bs old now p q) where
   pub no-room : 0 < length bs → q .place ≡ p .place → p .room < length bs
   no-room s e = by-le (length bs) (p .room) (λ l. let f : q .place ≡ p .place + length bs = ap (λ (r : Pen). r .place) (line-moved l .0) in absurd (omega arith)) (λ l. l)
 
--- bs stand behind the place of p, and q behind them
-pub record Past (bs old now : List ℕ) (p q : Pen) : Type 0 where
-  pub fits : Fits q now
-  pub long : length now ≡ length old
-  pub place : q .place ≡ p .place + length bs
-  pub front : take (q .place) now ≡ take (p .place) old ++ bs
-
+-- before any line
 pub past-none : {old : List ℕ} {p : Pen} → Fits p old → Past [] old old p p
 past-none f = record { fits = f; long = refl; place = rw add-zero; front = rw append-nil }
 

@@ -8,12 +8,24 @@ ghost use lib.ListN.{length, drop};
 ghost use Rattle.sheet.specs.Number.{digitsOf};
 ghost use Rattle.sheet.specs.Text.{codesText, lineText};
 ghost use Rattle.pen.specs.Pieces.{Wrote, nextText};
-ghost use Rattle.pen.specs.Lines.{Fits, Lined};
+ghost use Rattle.pen.specs.Lines.{Fits, Lined, LinedTwice};
 
 // Where the next line begins, and how many bytes are left behind that.
 pub struct Pen {
     pub place: usize,
     pub room: usize,
+}
+
+// Where a pen stood between two lines, and the pen behind both.
+pub struct Twice {
+    pub between: usize,
+    pub pen: Pen,
+}
+
+// The pen behind what was written, or that it does not fit.
+pub enum Penned {
+    On(Pen),
+    Full,
 }
 
 // How many digits n has.
@@ -157,7 +169,8 @@ pub fn line_at(text: &mut [u8], pen: Pen, key: &[u8], numbers: &[u16]) -> Pen
 // The same with the pen lent: it is read, and stored anew behind the line. Thin, and walked by hand.
 pub fn line(text: &mut [u8], pen: &mut Pen, key: &[u8], numbers: &[u16])
     requires { ⌜ Fits (now pen) (now text) ⌝ }
-    ensures { λ _. ⌜ Lined (lineText (now (key .entry)) (now (numbers .entry))) (now (text .entry)) (now (text .exit)) (now (pen .entry)) (now (pen .exit)) ⌝ }
+    ensures { λ _. ⌜ Lined (lineText (now (key .entry)) (now (numbers .entry))) (now (text .entry)) (now (text .exit))
+        (now (pen .entry)) (now (pen .exit)) ⌝ }
 {
     let old = *pen;
     let new = line_at(text, old, key, numbers);
@@ -172,4 +185,24 @@ pub fn line_by(text: &mut [u8], pen: Pen, key: &[u8], numbers: &[u16]) -> Pen
     let mut lent = pen;
     line(text, &mut lent, key, numbers);
     lent
+}
+
+// Lends one pen to two lines in turn. Thin, and walked by hand.
+pub fn two_lines(
+    text: &mut [u8],
+    pen: Pen,
+    first: &[u8],
+    ones: &[u16],
+    second: &[u8],
+    others: &[u16],
+) -> Twice
+    requires { ⌜ Fits pen (now text) ⌝ }
+    ensures { λ r. ⌜ LinedTwice (lineText (now (first .entry)) (now (ones .entry))) (lineText (now (second .entry)) (now (others .entry)))
+        (now (text .entry)) (now (text .exit)) pen r ⌝ }
+{
+    let mut lent = pen;
+    line(text, &mut lent, first, ones);
+    let between = lent.place;
+    line(text, &mut lent, second, others);
+    Twice { between, pen: lent }
 }

@@ -11,10 +11,9 @@ use Rattle.sheet.proofs.ReadsBack.{Words, SiteWords, SheetFits}
 use Rattle.tables.specs.Rules.{codeRule, codeRuleBy}
 use Rattle.tables.specs.Sound.{Sound}
 use Rattle.tables.proofs.Meaning.{fine-means}
-use Rattle.tables.proofs.Sound.{offset-first}
+use Rattle.tables.proofs.Sound.{contexts-are, offset-first}
 use Rattle.tables.proofs.Checks.{Accepted}
 use Rattle.tables.proofs.Cuts.{Cut, sound-cut, offsets-back, codes-back}
-use Rattle.writer.proofs.Sheets.{contexts-are}
 
 back : (os cs : List ℕ) → Cut os (length cs) → getD os 0 0 ≡ 0 → (offsetsOf (siteOf os cs) ≡ os) × (allCodes (siteOf os cs) ≡ cs)
 back [] cs c z = absurd c
@@ -58,6 +57,6 @@ written-fits {k} {os} {cs} A lo lc h g =
     record {
       k-word = omega (arith, A .most);
       words = site-words os cs (words-of cs (code-small S));
-      contexts = omega (arith, contexts-are os cs, S .some, S .few);
+      contexts = omega (arith, contexts-are S, S .few);
       room = rw (site-is S .1) (omega (arith, S .short));
     }

@@ -16,7 +16,7 @@ use Rattle.tables.proofs.Cuts.{site-back}
 use Rattle.tables.specs.Sound.{Sound}
 use Rattle.reader.specs.declared.Reading.the-variants as reading
 use Rattle.reader.specs.Answers.{answerOf, offsetsBy, codesBy}
-use Rattle.writer.proofs.Sheets.{contexts-are}
+use Rattle.writer.proofs.Sheets.{one-less}
 use Rattle.trip.proofs.Fitting.{site-is}
 
 -- words with zeros behind them begin with the words
@@ -49,5 +49,5 @@ pub tables-again : {k : ℕ} {os cs : List ℕ} → Sound os cs → (x : Read Sh
     → (answerOf x ≡ reading.Sheet k (length os - 1) (length cs)) × (offsetsBy x ≡ os) × (codesBy x ≡ cs)
 unfolding answerOf offsetsBy codesBy
 tables-again {k} {os} {cs} S x e =
-    let n = sym (contexts-are os cs) in
+    let n = sym (one-less S) in
     rw e (λ i. reading.Sheet k (n i) (length (site-is S .1 i)), site-is S .0, site-is S .1)

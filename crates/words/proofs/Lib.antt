@@ -5,6 +5,7 @@
 -- Tests     the branches of a rule, for `search tests`
 -- Words     flat records, and a buffer that holds words with zeros behind them
 -- Zeroed    the loop that zeroes
+-- OneAnswer what 'one answer only' means of a contract
 -- Only      one answer only
 pub mod Lists
 pub mod Product

@@ -1,9 +1,21 @@
--- One answer only: two results that meet the call's contract for the same inputs are equal, and so are the two texts.
-use mathlib.Core.Path.{_≡_, sym, _∙_}
+-- One answer only, of the call's contract itself as it is read from the code.
+use mathlib.Core.Path.{sym, _∙_}
 use mathlib.Core.List.{List}
 use Prim.Native.Nat.{ℕ}
+use contract.Lifetimes.{Lfts}
+use denote.Triple.Clauses.{AtExit}
+use borrow.Fn.Kinds.{Dens, resT, endedOf}
+use Rattle.words.proofs.OneAnswer.{OneAnswer}
 use Rattle.writer.specs.declared.Writing.{Writing}
 use Rattle.writer.specs.Calls.{Writes}
+use Rattle.writer.proofs.write.Kinds as kinds
+use Rattle.writer.proofs.write.Reads as write
 
-pub write-only : {k : ℕ} {offsets codes text : List ℕ} {r r₂ : Writing} {t t₂ : List ℕ} → Writes k offsets codes text r t → Writes k offsets codes text r₂ t₂ → (r ≡ r₂) × (t ≡ t₂)
-write-only a b = (a .answer ∙ sym (b .answer), a .text-is ∙ sym (b .text-is))
+-- the contract says `Writes`: of the parameters k, offsets and codes are the first three, and the text is the fourth
+pub write-says : (κs : Lfts 3) (a : Dens κs kinds.ps) (u : resT kinds.r κs .Denot) (x : AtExit (endedOf 3 kinds.ps kinds.r) κs) → write.Post κs a u x
+    → Writes (a .0) (a .1 .0 .now) (a .1 .1 .0 .now) (a .1 .1 .1 .0 .now) u (x .1 .1 .1 .0 .now)
+write-says κs a u x p = p
+
+-- two calls with the same arguments that meet it answer the same, and leave the same text
+pub write-only : OneAnswer 3 kinds.ps kinds.r write.Post {B = Writing × List ℕ} (λ κs u x. (u, x .1 .1 .1 .0 .now))
+write-only κs a u v x y p q = λ i. ((p .answer ∙ sym (q .answer)) i, (p .text-is ∙ sym (q .text-is)) i)

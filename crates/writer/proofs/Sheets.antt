@@ -1,30 +1,25 @@
 -- The lines of the tables' contexts, and the sheet, line after line.
-use mathlib.Core.Path.{_≡_, refl, sym, _∙_}
+use mathlib.Core.Path.{_≡_, refl}
 use mathlib.Core.List.{List, [], _∷_, _++_, append-nil, append-assoc}
-use Prim.Native.Nat.{ℕ, zero, suc, pred, _+_, _-_, _≤_, _<_}
+use Prim.Native.Nat.{ℕ, _+_, _-_, _≤_, _<_}
 use native.Mathlib.Nat.{zero-add}
 use native.Mathlib.Omega.{arith}
-use lib.ListN.{length, getD, length-append}
+use lib.ListN.{length, getD}
 use Rattle.site.specs.Site.{codesOf}
 use Rattle.site.specs.Tables.{siteOf}
-use Rattle.site.proofs.Tables.{site-length}
+use Rattle.tables.specs.Sound.{Sound}
+use Rattle.tables.proofs.Sound.{contexts-are}
 use Rattle.sheet.specs.Text.{kKey, contextsKey, cKey, lineText, contextText, numberText, linesText, sheetText}
 use Rattle.pen.specs.declared.Pen.{Pen}
-use Rattle.pen.specs.Lines.{Fits, Lined}
+use Rattle.pen.specs.declared.Penned.{Penned}
+use Rattle.pen.specs.declared.Penned.the-variants.{Full}
+use Rattle.pen.specs.declared.Twice.{Twice}
+use Rattle.pen.specs.Lines.{Fits, Lined, LinedTwice}
+use Rattle.pen.specs.Added.{Added}
 use Rattle.pen.proofs.Grown.{Grows}
-use Rattle.pen.proofs.Past.{line-some, no-room, Past, past-none, past-line, past-full}
-use Rattle.writer.specs.declared.Put.{Put}
-use Rattle.writer.specs.declared.Put.the-variants.{Full}
-use Rattle.writer.specs.Writes.{Added}
-use Rattle.writer.proofs.Added.{added-full, added-more}
-
--- as many contexts as offsets but one
-pub contexts-are : (os cs : List ℕ) → length os - 1 ≡ length (siteOf os cs)
-contexts-are os cs = pred-of (length os) ∙ sym (site-length os cs)
-  where
-    pred-of : (n : ℕ) → n - 1 ≡ pred n
-    pred-of zero = omega arith
-    pred-of (suc n) = omega arith
+use Rattle.pen.proofs.Past.{line-some}
+use Rattle.pen.proofs.Added.{added-stop, added-then}
+use Rattle.pen.proofs.InTurn.{first-full, second-full, both-on}
 
 -- the lines grow by that of a context
 none : linesText [] ≡ []
@@ -39,43 +34,46 @@ snoc (e ∷ site) c = rw (snoc site c, append-assoc)
 pub lines-grow : Grows linesText (λ i c. contextText c)
 lines-grow = record { none = none; snoc = snoc }
 
-module _ (os cs : List ℕ) (i : ℕ) where
-  pub in-site : i + 1 < length os → i < length (siteOf os cs)
-  in-site h = omega (arith, contexts-are os cs)
+module _ {os cs : List ℕ} (s : Sound os cs) where
+  -- as many contexts as offsets but one
+  pub one-less : length os - 1 ≡ length (siteOf os cs)
+  one-less = omega (arith, contexts-are s)
 
-  pub site-done : length os ≤ i + 1 → length (siteOf os cs) ≤ i
-  site-done h = omega (arith, contexts-are os cs)
+  module _ (i : ℕ) where
+    -- the contexts are those of the offsets
+    pub in-site : i + 1 < length os → i < length (siteOf os cs)
+    in-site h = omega (arith, contexts-are s)
 
-  -- the line of the context that was handed over
-  pub context-lined : {c old now : List ℕ} {p q : Pen} → c ≡ codesOf (siteOf os cs) i → Lined (lineText cKey c) old now p q → Lined (contextText (getD (siteOf os cs) i [])) old now p q
-  context-lined e w = rw e at w
+    -- and no more
+    pub site-done : length os ≤ i + 1 → length (siteOf os cs) ≤ i
+    site-done h = omega (arith, contexts-are s)
+
+    -- the line of the context that was handed over
+    pub context-lined : {c old now : List ℕ} {p q : Pen} → c ≡ codesOf (siteOf os cs) i → Lined (lineText cKey c) old now p q → Lined (contextText (getD (siteOf os cs) i [])) old now p q
+    context-lined e w = rw e at w
 
 -- a pen at the text's first byte
 pub at-front : (text : List ℕ) → Fits (record { place = 0; room = length text }) text
 at-front text = zero-add (length text)
 
--- the sheet, line after line
-module _ (k : ℕ) (os cs : List ℕ) {old first : List ℕ} {p q : Pen} (f : Fits p old) (w : Lined (numberText kKey k) old first p q) where
-  sheet-length : length (sheetText k (siteOf os cs)) ≡ length (numberText kKey k) + length (numberText contextsKey (length (siteOf os cs))) + length (linesText (siteOf os cs))
+-- the sheet behind its two head lines
+module _ (k : ℕ) {os cs : List ℕ} (s : Sound os cs) {old mid : List ℕ} {p : Pen} (f : Fits p old) {t : Twice} (v : LinedTwice (numberText kKey k) (numberText contextsKey (length os - 1)) old mid p t) where
+  -- the head lines, with the number of contexts
+  heads : LinedTwice (numberText kKey k) (numberText contextsKey (length (siteOf os cs))) old mid p t
+  heads = rw (one-less s) at v
+
+  -- the `k=` line has no room
+  pub k-full : t .between ≡ p .place → Added (sheetText k (siteOf os cs)) old mid p Full
   unfolding sheetText
-  sheet-length = rw (length-append, length-append)
+  k-full e = added-stop (first-full heads f (line-some kKey (k ∷ [])) e) (linesText (siteOf os cs)) refl
 
-  pub k-full : q .place ≡ p .place → length first ≡ length old → Added (sheetText k (siteOf os cs)) old first p Full
-  k-full e l = added-full refl (omega (arith, sheet-length, no-room w (line-some kKey (k ∷ [])) e)) l
-
-  module _ (m : q .place ≡ p .place → ⊥) {second : List ℕ} {r : Pen} (v : Lined (numberText contextsKey (length os - 1)) first second q r) where
-    one : Past (numberText kKey k) old first p q
-    one = past-line f (past-none f) w m
-
-    two : Lined (numberText contextsKey (length (siteOf os cs))) first second q r
-    two = rw (contexts-are os cs) at v
-
-    pub contexts-full : r .place ≡ q .place → length second ≡ length old → Added (sheetText k (siteOf os cs)) old second p Full
-    contexts-full e l =
-        let n = past-full f one two (line-some contextsKey (length (siteOf os cs) ∷ [])) e in
-        let a = length-append (numberText kKey k) (numberText contextsKey (length (siteOf os cs))) in
-        added-full refl (omega (arith, sheet-length, n, a)) l
-
-    pub sheet-done : (r .place ≡ q .place → ⊥) → {last : List ℕ} {s : Put} → Added (linesText (siteOf os cs)) second last r s → Added (sheetText k (siteOf os cs)) old last p s
+  module _ (m : t .between ≡ p .place → ⊥) where
+    -- the `contexts=` line has none
+    pub contexts-full : t .pen .place ≡ t .between → Added (sheetText k (siteOf os cs)) old mid p Full
     unfolding sheetText
-    sheet-done e u = added-more f (past-line f one two e) u
+    contexts-full e = added-stop (second-full heads f m (line-some contextsKey (length (siteOf os cs) ∷ [])) e) (linesText (siteOf os cs)) refl
+
+    -- the contexts' lines behind both
+    pub sheet-done : (t .pen .place ≡ t .between → ⊥) → {now : List ℕ} {r : Penned} → Added (linesText (siteOf os cs)) mid now (t .pen) r → Added (sheetText k (siteOf os cs)) old now p r
+    unfolding sheetText
+    sheet-done e u = added-then (both-on heads f m e) f refl u

@@ -1,12 +1,13 @@
 -- `writer::context_lines` meets its contract: a line for each context, and none behind one without room.
-use Rattle.writer.proofs.Sheets.{contexts-are, lines-grow, in-site, site-done, context-lined}
-use Rattle.writer.proofs.Added.{added-full, past-added}
+use Rattle.writer.proofs.Sheets.{lines-grow, in-site, site-done, context-lined}
+use Rattle.tables.proofs.Sound.{contexts-are}
+use Rattle.pen.proofs.Added.{added-on, added-none}
 use Rattle.pen.proofs.Past.{line-some, Grown, grown-start, grown-next, grown-full, grown-end}
 use Rattle.sheet.specs.Text.{cKey, linesText}
 use Rattle.site.specs.Tables.{siteOf}
 use native.Mathlib.Omega.{arith}
 use Prim.Native.Nat.{_-_}
-use mathlib.Core.Path.{refl, _∙_}
+use mathlib.Core.Path.{_∙_}
 use mathlib.Core.List.{[]}
 use lib.ListN.{length}
 use borrow.Author.Needs.{needs}
@@ -23,7 +24,7 @@ loop-holds : tie.Need-loop-holds Inv-loop μ-loop
 loop-holds c = grown-start lines-grow _ (c .before .before .before .pre .0)
 
 add-loop : tie.Need-add-loop Inv-loop μ-loop
-add-loop c = let s = c .before .before .before .before in omega (arith, c .loop .inv .within, contexts-are (s .args .offsets .now) (s .args .codes .now), s .pre .1 .few)
+add-loop c = let s = c .before .before .before .before in omega (arith, c .loop .inv .within, contexts-are (s .pre .1), s .pre .1 .few)
 
 cast-t13 : tie.Need-cast-t13 Inv-loop μ-loop
 cast-t13 c = omega (arith, c .loop-test .taken, c .before .before .before .before .before .pre .1 .few)
@@ -43,21 +44,23 @@ returns : tie.Need-returns Inv-loop μ-loop
 returns c =
     let x = c .before .before .before .before .before in
     let t = x .before .before .before .before in
-    let w = context-lined _ _ _ (x .before .before .before .context .ensures) (x .line-by .ensures) in
-    added-full refl (grown-full lines-grow [] (t .before .before .before .before .before .pre .0) (t .before .loop .inv) (in-site _ _ _ (t .loop-test .taken)) w (line-some cKey _) (c .if1 .taken)) (x .line-by .kept .0 ∙ t .before .loop .inv .past .long)
+    let s = t .before .before .before .before .before in
+    let w = context-lined (s .pre .1) _ (x .before .before .before .context .ensures) (x .line-by .ensures) in
+    added-none (x .line-by .kept .0 ∙ t .before .loop .inv .past .long) (grown-full lines-grow [] (s .pre .0) (t .before .loop .inv) (in-site (s .pre .1) _ (t .loop-test .taken)) w (line-some cKey _) (c .if1 .taken))
 
 loop-again : tie.Need-loop-again Inv-loop μ-loop
 loop-again c =
     let x = c .before .before .before .before .before in
     let t = x .before .before .before .before in
-    let w = context-lined _ _ _ (x .before .before .before .context .ensures) (x .line-by .ensures) in
-    grown-next lines-grow [] (t .before .before .before .before .before .pre .0) (t .before .loop .inv) (in-site _ _ _ (t .loop-test .taken)) w (c .if1 .left)
+    let s = t .before .before .before .before .before in
+    let w = context-lined (s .pre .1) _ (x .before .before .before .context .ensures) (x .line-by .ensures) in
+    grown-next lines-grow [] (s .pre .0) (t .before .loop .inv) (in-site (s .pre .1) _ (t .loop-test .taken)) w (c .if1 .left)
 
 same-length-2 : tie.Need-same-length-2 Inv-loop μ-loop
 same-length-2 c = c .before .loop .inv .past .long
 
 returns-2 : tie.Need-returns-2 Inv-loop μ-loop
-returns-2 c = past-added (c .before .before .before .before .before .pre .0) (grown-end (c .before .loop .inv) (site-done _ _ _ (c .loop-test .left)))
+returns-2 c = added-on (grown-end (c .before .loop .inv) (site-done (c .before .before .before .before .before .pre .1) _ (c .loop-test .left)))
 
 pub context-lines-spec : {M : Type 1} → statement M
 context-lines-spec =
