@@ -20,7 +20,8 @@ use Rattle.reader.specs.Fronts.{Stored, Held}
 use Rattle.reader.proofs.Enums.{line-value, line-refused, after, after-cons, after-none}
 use Rattle.reader.proofs.Ends.{Placed, line-placed}
 
-pub held-refused : {x : Read (List (List ℕ))} (end : ℕ) {offsets codes : List ℕ} {n p : ℕ} → x ≡ refused n p → Held x end offsets codes (part.Refused n p)
+-- nothing is said of the tables after a refusal
+held-refused : {x : Read (List (List ℕ))} (end : ℕ) {offsets codes : List ℕ} {n p : ℕ} → x ≡ refused n p → Held x end offsets codes (part.Refused n p)
 unfolding partBy
 held-refused end e = record { answer = rw e; contexts = λ s f. no-value (sym e ∙ f); codes-front = λ s f. no-value (sym e ∙ f) }
 

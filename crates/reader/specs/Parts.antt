@@ -4,16 +4,22 @@ use mathlib.Core.List.{List, [], _∷_}
 use Prim.Native.Nat.{ℕ, suc, _+_, min}
 use lib.Dec.{eqb, ltb}
 use lib.ListN.{length, drop}
+use denote.Ref.{RefT}
+use denote.Triple.Both.{Both}
 use Rattle.site.specs.Tables.{allCodes}
 use Rattle.sheet.specs.Read.{Read, value, refused, _then_}
 use Rattle.sheet.specs.Number.{numberOf}
 use Rattle.sheet.specs.Pieces.{frontTo, split}
-use Rattle.sheet.specs.Text.{kKey, contextsKey, cKey}
-use Rattle.sheet.specs.Reading.{Line, behind, codesRead, contextOf, line, linesOf}
+use Rattle.sheet.specs.Text.{contextsKey, cKey}
+use Rattle.sheet.specs.Reading.{Line, Sheet, behind, codesRead, contextOf, line, linesOf}
 use Rattle.reader.specs.declared.Part.{Part}
 use Rattle.reader.specs.declared.Part.the-variants as part
 use Rattle.reader.specs.declared.Reading.{Reading}
 use Rattle.reader.specs.declared.Reading.the-variants as reading
+
+-- in a contract: how many words of a table were lent, as an `ensures` names it
+abbrev pub wordsLent : {X : Type 0} → Both (RefT (List ℕ)) X → ℕ
+wordsLent words = length (words .entry .now)
 
 -- a reading whose value is counted by f, and behind which stands the place `next`
 unfoldable pub partBy : {A : Type 0} → (A → ℕ) → ℕ → Read A → Part
@@ -76,21 +82,13 @@ contextLine lent used at s = line (contextIn lent used) at (split 10 (drop at s)
 abbrev pub linesFrom : ℕ → ℕ → ℕ → List ℕ → Read (List (List ℕ))
 linesFrom lent n at s = linesOf (min 4096 lent) n 0 at (split 10 (drop at s))
 
--- a sheet's `k=` line
-unfoldable pub kLine : List ℕ → Read (Line ℕ)
-kLine s = numberLine kKey 65536 0 s
+-- what stands behind the `k=` line, from the place `at` on: the `contexts=` line, and its `c=` lines
+unfoldable pub readBehind : ℕ → ℕ → ℕ → ℕ → List ℕ → Read Sheet
+readBehind offsets codes k at s =
+    numberLine contextsKey (min 257 offsets) at s then λ n.
+    linesOf (min 4096 codes) (n .got) 0 (n .next) (n .lines) then λ site. value (record { k = k; site = site })
 
--- the `contexts=` line behind it, with so many offset words lent
-unfoldable pub contextsLine : ℕ → List ℕ → Read (Line ℕ)
-contextsLine offsets s = kLine s then λ k. line (behind contextsKey (numberOf (min 257 offsets))) (k .next) (k .lines)
-
--- the `c=` lines behind both, with so many code words lent
-unfoldable pub contextLines : ℕ → ℕ → List ℕ → Read (List (List ℕ))
-contextLines offsets codes s = contextsLine offsets s then λ n. linesOf (min 4096 codes) (n .got) 0 (n .next) (n .lines)
-
--- three readings as one: the first refusal among them, or the sheet
-unfoldable pub sheetBy : Part → Part → Part → Reading
-sheetBy (part.Refused n p) c r = reading.Refused n p
-sheetBy (part.Read k _) (part.Refused n p) r = reading.Refused n p
-sheetBy (part.Read k _) (part.Read c _) (part.Refused n p) = reading.Refused n p
-sheetBy (part.Read k _) (part.Read c _) (part.Read r _) = reading.Sheet k c r
+-- the sheet of k and so many contexts, by the reading of its `c=` lines; or the refusal of a part
+unfoldable pub wholeBy : ℕ → ℕ → Part → Reading
+wholeBy k contexts (part.Read codes _) = reading.Sheet k contexts codes
+wholeBy k contexts (part.Refused n p) = reading.Refused n p
