@@ -7,8 +7,8 @@ use native.Mathlib.Omega.{arith}
 use borrow.Author.Tests.{eq-eqb, ne-eqb, lt-ltb, le-ltb}
 use lib.Seq.{length-take-le}
 use lib.ListN.{length, take}
-use Rattle.sheet.specs.Number.{valueOf, mostDigits, digitsIn, numberOf}
-use Rattle.sheet.proofs.Numbers.{AllDigits, run-digits, take-in, in-within}
+use Rattle.sheet.specs.Number.{valueOf, AllDigits, mostDigits, digitsIn, numberOf}
+use Rattle.sheet.proofs.Numbers.{run-digits, take-in, in-within}
 use Rattle.reader.specs.declared.Part.the-variants as part
 use Rattle.reader.specs.Parts.{partBy, itself}
 

@@ -16,7 +16,7 @@ use Rattle.reader.specs.declared.Part.{Part}
 use Rattle.reader.specs.declared.Part.the-variants as part
 use Rattle.reader.specs.declared.Reading.{Reading}
 use Rattle.reader.specs.declared.Reading.the-variants as reading
-use Rattle.reader.specs.Answers.{answerOf, offsetsBy, codesBy}
+use Rattle.reader.specs.Answers.{readingOf, offsetsBy, codesBy}
 use Rattle.reader.specs.Parts.{partBy, lineBy, itself, codesIn, numberLine, linesFrom, readBehind, wholeBy}
 use Rattle.reader.specs.Fronts.{Held, Taken}
 use Rattle.reader.proofs.Enums.{line-value, line-refused}
@@ -25,13 +25,13 @@ use Rattle.reader.proofs.Ends.{Placed, line-placed}
 -- a refusal is the whole answer, and nothing is asked of the tables
 taken-refused : {x : Read Sheet} {n p : ℕ} → x ≡ refused n p → {r : Part} → r ≡ part.Refused n p → (k c : ℕ) {z : Reading} → z ≡ wholeBy k c r
     → {offsets codes : List ℕ} → Taken x offsets codes z
-unfolding wholeBy answerOf offsetsBy codesBy
+unfolding wholeBy readingOf offsetsBy codesBy
 taken-refused e f k c g = record { answer = g ∙ rw (e, f); offsets-front = rw e; codes-front = rw e }
 
 -- the sheet of k, and of the contexts of a reading y: n are owed, and n are read
 taken-by : (k n end : ℕ) (y : Read (List (List ℕ))) {offsets codes : List ℕ} {r : Part} → ((site : List (List ℕ)) → y ≡ value site → length site ≡ n)
     → Held y end offsets codes r → Taken (y then λ site. value (record { k = k; site = site })) offsets codes (wholeBy k n (partBy codesIn end y))
-unfolding wholeBy partBy answerOf offsetsBy codesBy
+unfolding wholeBy partBy readingOf offsetsBy codesBy
 taken-by k n end (refused c p) count H = record { answer = refl; offsets-front = refl; codes-front = refl }
 taken-by k n end (value site) count H =
     let z : length (offsetsOf site) ≡ length site + 1 = omega (arith, offsets-length 0 site) in

@@ -10,9 +10,10 @@ use Rattle.sheet.specs.Read.{Read, value, refused}
 use Rattle.sheet.specs.Reading.{Sheet, readSheet}
 use Rattle.sheet.proofs.Tables.{offsets-length, front-fits}
 use Rattle.reader.specs.declared.Reading.{Reading}
-use Rattle.reader.specs.Answers.{answerOf, offsetsBy, codesBy}
+use Rattle.reader.specs.Answers.{readingOf, offsetsBy, codesBy}
 use Rattle.reader.specs.Fronts.{Taken, offsetsUsed, codesUsed}
 use Rattle.reader.specs.Calls.{Reads}
+use Rattle.reader.proofs.Answers.{reading-tells}
 
 -- a front that is kept, and zeros behind it
 refilled : (now : List ℕ) {out ws : List ℕ} {n k : ℕ} → take (length ws) now ≡ ws → k ≡ length ws → length now ≡ n → out ≡ take k now ++ replicate (length now - k) 0 → out ≡ padded n ws
@@ -20,13 +21,13 @@ unfolding padded
 refilled now f e l o = o ∙ rw (e, f, l)
 
 -- the answer tells how many words hold data
-offsets-count : (x : Read Sheet) → length (offsetsBy x) ≡ offsetsUsed (answerOf x)
-unfolding answerOf offsetsBy offsetsUsed
+offsets-count : (x : Read Sheet) → length (offsetsBy x) ≡ offsetsUsed (readingOf x)
+unfolding readingOf offsetsBy offsetsUsed
 offsets-count (value s) = omega (arith, offsets-length 0 (s .site))
 offsets-count (refused n p) = refl
 
-codes-count : (x : Read Sheet) → length (codesBy x) ≡ codesUsed (answerOf x)
-unfolding answerOf codesBy codesUsed
+codes-count : (x : Read Sheet) → length (codesBy x) ≡ codesUsed (readingOf x)
+unfolding readingOf codesBy codesUsed
 codes-count (value s) = refl
 codes-count (refused n p) = refl
 
@@ -50,7 +51,7 @@ pub zeros-behind : (sheet offsets codes : List ℕ) {o c : List ℕ} {r : Readin
     → o₂ ≡ take i o ++ replicate (length o - i) 0 → c₂ ≡ take j c ++ replicate (length c - j) 0 → Reads sheet offsets codes r o₂ c₂
 zeros-behind sheet offsets codes {o} {c} T lo lc u v f g =
     record {
-      answer = T .answer;
+      told = reading-tells _ (T .answer);
       offsets-are = refilled o (T .offsets-front) (all-offsets T u) lo f;
       codes-are = refilled c (T .codes-front) (all-codes T v) lc g;
     }

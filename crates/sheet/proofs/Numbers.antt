@@ -9,10 +9,7 @@ use borrow.Author.Tests.{le-leb, lt-leb, eq-eqb, ne-eqb}
 use lib.ListN.{length, getD, take, length-take}
 use lib.Seq.{take-take, take-length}
 use Rattle.words.proofs.Split.{by-eq, by-le}
-use Rattle.sheet.specs.Number.{valueFrom, isDigit, digitRun, mostDigits, digitsIn}
-
-abbrev pub AllDigits : List ℕ → Type 0
-AllDigits bs = (i : ℕ) → i < length bs → (48 ≤ getD bs i 0) × (getD bs i 0 ≤ 57)
+use Rattle.sheet.specs.Number.{valueFrom, isDigit, AllDigits, digitRun, mostDigits, digitsIn}
 
 pub value-ge : (v : ℕ) (bs : List ℕ) → v ≤ valueFrom v bs
 unfolding valueFrom

@@ -1,0 +1,50 @@
+-- What an answer tells, by the paper's number and values, is the answer; and so the answer of a reading.
+-- So a promise may speak of the number and the values alone, and still fixes the answer.
+use mathlib.Core.List.{List, [], _∷_}
+use mathlib.Core.Path.{_≡_, ap}
+use Prim.Native.Nat.{ℕ}
+use native.Mathlib.Omega.{arith}
+use lib.ListN.{length}
+use Rattle.sheet.specs.Read.{Read, value, refused, readNumber, readValues}
+use Rattle.sheet.specs.Reading.{Sheet, readSheet}
+use Rattle.reader.specs.declared.Reading.{Reading}
+use Rattle.reader.specs.declared.Reading.the-variants as reading
+use Rattle.reader.specs.Answers.{readingNumber, readingValues, ReadingTells, sheetValues, readingOf}
+use Rattle.reader.specs.Calls.{Reads}
+
+-- a refusal, by its number and its place
+module _ {n p : ℕ} where
+  pub tells-refused : (r : Reading) → ReadingTells r n (p ∷ []) → r ≡ reading.Refused n p
+  tells-refused (reading.Sheet k c m) t = absurd (omega (arith, ap length (t .1)))
+  tells-refused (reading.Refused a b) t = let q : b ≡ p = cc (t .1) in λ i. reading.Refused (t .0 i) (q i)
+
+  pub refused-tells : {r : Reading} → r ≡ reading.Refused n p → ReadingTells r n (p ∷ [])
+  refused-tells e = (ap readingNumber e, ap readingValues e)
+
+-- a sheet, by its three values
+module _ {k c m : ℕ} where
+  pub tells-sheet : (r : Reading) → ReadingTells r 0 (k ∷ c ∷ m ∷ []) → r ≡ reading.Sheet k c m
+  tells-sheet (reading.Sheet a b d) t =
+      let x : a ≡ k = cc (t .1) in
+      let y : b ≡ c = cc (t .1) in
+      let z : d ≡ m = cc (t .1) in λ i. reading.Sheet (x i) (y i) (z i)
+  tells-sheet (reading.Refused a b) t = absurd (omega (arith, ap length (t .1)))
+
+  pub sheet-tells : {r : Reading} → r ≡ reading.Sheet k c m → ReadingTells r 0 (k ∷ c ∷ m ∷ [])
+  sheet-tells e = (ap readingNumber e, ap readingValues e)
+
+-- a reading, by its own number and values
+pub tells-reading : (x : Read Sheet) (r : Reading) → ReadingTells r (readNumber x) (readValues sheetValues x) → r ≡ readingOf x
+unfolding readingOf
+tells-reading (value s) r t = tells-sheet r t
+tells-reading (refused n p) r t = tells-refused r t
+
+pub reading-tells : (x : Read Sheet) {r : Reading} → r ≡ readingOf x → ReadingTells r (readNumber x) (readValues sheetValues x)
+unfolding readingOf
+reading-tells (value s) e = sheet-tells e
+reading-tells (refused n p) e = refused-tells e
+
+-- for callers: the contract gives the answer itself
+pub reads-answer : {sheet offsets codes : List ℕ} {r : Reading} {o c : List ℕ} → Reads sheet offsets codes r o c
+    → r ≡ readingOf (readSheet (length offsets) (length codes) sheet)
+reads-answer {r = r} R = tells-reading _ r (R .told)
