@@ -14,12 +14,12 @@ use Rattle.reader.specs.Calls.{Reads}
 
 -- a refusal, by its number and its place
 module _ {n p : ℕ} where
-  pub tells-refused : (r : Reading) → ReadingTells r n (p ∷ []) → r ≡ reading.Refused n p
-  tells-refused (reading.Sheet k c m) t = absurd (omega (arith, ap length (t .1)))
-  tells-refused (reading.Refused a b) t = let q : b ≡ p = cc (t .1) in λ i. reading.Refused (t .0 i) (q i)
+  pub tells-refusal : (r : Reading) → ReadingTells r n (p ∷ []) → r ≡ reading.Refused n p
+  tells-refusal (reading.Sheet k c m) t = absurd (omega (arith, ap length (t .1)))
+  tells-refusal (reading.Refused a b) t = let q : b ≡ p = cc (t .1) in λ i. reading.Refused (t .0 i) (q i)
 
-  pub refused-tells : {r : Reading} → r ≡ reading.Refused n p → ReadingTells r n (p ∷ [])
-  refused-tells e = (ap readingNumber e, ap readingValues e)
+  pub refusal-tells : {r : Reading} → r ≡ reading.Refused n p → ReadingTells r n (p ∷ [])
+  refusal-tells e = (ap readingNumber e, ap readingValues e)
 
 -- a sheet, by its three values
 module _ {k c m : ℕ} where
@@ -37,12 +37,12 @@ module _ {k c m : ℕ} where
 pub tells-reading : (x : Read Sheet) (r : Reading) → ReadingTells r (readNumber x) (readValues sheetValues x) → r ≡ readingOf x
 unfolding readingOf
 tells-reading (value s) r t = tells-sheet r t
-tells-reading (refused n p) r t = tells-refused r t
+tells-reading (refused n p) r t = tells-refusal r t
 
 pub reading-tells : (x : Read Sheet) {r : Reading} → r ≡ readingOf x → ReadingTells r (readNumber x) (readValues sheetValues x)
 unfolding readingOf
 reading-tells (value s) e = sheet-tells e
-reading-tells (refused n p) e = refused-tells e
+reading-tells (refused n p) e = refusal-tells e
 
 -- for callers: the contract gives the answer itself
 pub reads-answer : {sheet offsets codes : List ℕ} {r : Reading} {o c : List ℕ} → Reads sheet offsets codes r o c

@@ -17,7 +17,7 @@ use Rattle.reader.specs.declared.Part.the-variants as part
 use Rattle.reader.specs.declared.Reading.{Reading}
 use Rattle.reader.specs.declared.Reading.the-variants as reading
 use Rattle.reader.specs.Answers.{readingOf, offsetsBy, codesBy}
-use Rattle.reader.specs.Parts.{partBy, lineBy, itself, codesIn, numberLine, linesFrom, readBehind, wholeBy}
+use Rattle.reader.specs.Parts.{partBy, lineBy, itself, codesIn, numberLine, linesFrom, readRest, wholeBy}
 use Rattle.reader.specs.Fronts.{Held, Taken}
 use Rattle.reader.proofs.Enums.{line-value, line-refused}
 use Rattle.reader.proofs.Ends.{Placed, line-placed}
@@ -57,8 +57,8 @@ module _ (lo lc : ℕ) (s : List ℕ) {r : Part} (a : r ≡ lineBy itself (numbe
     pub k-within : next ≤ length s
     k-within = rw (k-line .3) (k-placed .within)
 
-    pub k-read : {z : Reading} {offsets codes : List ℕ} → Taken (readBehind lo lc k next s) offsets codes z → Taken (readSheet lo lc s) offsets codes z
-    unfolding readSheet readBehind
+    pub k-read : {z : Reading} {offsets codes : List ℕ} → Taken (readRest lo lc k next s) offsets codes z → Taken (readSheet lo lc s) offsets codes z
+    unfolding readSheet readRest
     k-read T = rw (k-line .1, k-placed .rest, ← k-line .2, ← k-line .3) T
 
 -- r is the reading of the `contexts=` line, which begins at the place `at`
@@ -66,8 +66,8 @@ module _ (lo lc k : ℕ) (s : List ℕ) (at : ℕ) {room : ℕ} (q : room ≡ mi
   is-read : lineBy itself (numberLine contextsKey (min 257 lo) at s) ≡ r
   is-read = sym (a ∙ rw q)
 
-  pub contexts-refused : {n p : ℕ} → r ≡ part.Refused n p → {z : Reading} → z ≡ wholeBy k 0 r → {offsets codes : List ℕ} → Taken (readBehind lo lc k at s) offsets codes z
-  unfolding readBehind
+  pub contexts-refused : {n p : ℕ} → r ≡ part.Refused n p → {z : Reading} → z ≡ wholeBy k 0 r → {offsets codes : List ℕ} → Taken (readRest lo lc k at s) offsets codes z
+  unfolding readRest
   contexts-refused e g = taken-refused (rw (line-refused itself _ (is-read ∙ e))) e k 0 g
 
   module _ (h : at ≤ length s) {n next : ℕ} (e : r ≡ part.Read n next) where
@@ -81,6 +81,6 @@ module _ (lo lc k : ℕ) (s : List ℕ) (at : ℕ) {room : ℕ} (q : room ≡ mi
     lines-begin = (rw (c-line .3) (c-placed .within), rw (c-line .2) (behind-small _ contextsKey _ _ (c-placed .text) .fits))
 
     pub lines-read : (end : ℕ) {offsets codes : List ℕ} {last : Part} → Held (linesFrom lc n next s) end offsets codes last
-        → {z : Reading} → z ≡ wholeBy k n last → Taken (readBehind lo lc k at s) offsets codes z
-    unfolding readBehind
+        → {z : Reading} → z ≡ wholeBy k n last → Taken (readRest lo lc k at s) offsets codes z
+    unfolding readRest
     lines-read end H g = rw (g, H .answer, c-line .1, c-placed .rest, ← c-line .2, ← c-line .3) (taken-by k n end (linesFrom lc n next s) (λ site. lines-count _ n 0 next _) H)

@@ -11,7 +11,7 @@ use Rattle.sheet.specs.Read.{Read, value, refused, _then_}
 use Rattle.sheet.specs.Number.{numberOf}
 use Rattle.sheet.specs.Pieces.{frontTo, split}
 use Rattle.sheet.specs.Text.{contextsKey, cKey}
-use Rattle.sheet.specs.Reading.{Line, Sheet, behind, codesRead, contextOf, line, linesOf}
+use Rattle.sheet.specs.Reading.{Line, Sheet, behind, roomAfter, codesRead, contextOf, line, linesOf}
 use Rattle.reader.specs.declared.Part.{Part}
 use Rattle.reader.specs.declared.Part.the-variants as part
 use Rattle.reader.specs.declared.Reading.{Reading}
@@ -58,15 +58,23 @@ matchedBy (x ∷ key) (b ∷ l) = cond (eqb b x) (suc (matchedBy key l)) 0
 abbrev pub lineAt : ℕ → List ℕ → List ℕ
 lineAt at s = frontTo 10 (drop at s)
 
--- the word that begins at the index `from` of a line, without the space behind it
-abbrev pub wordAt : ℕ → List ℕ → List ℕ
-wordAt from l = frontTo 32 (drop from l)
-
 -- the line of a key and a number that begins at the place `at`
 abbrev pub numberLine : List ℕ → ℕ → ℕ → List ℕ → Read (Line ℕ)
 numberLine key room at s = line (behind key (numberOf room)) at (split 10 (drop at s))
 
--- with so many code words lent and used: the codes whose words fill l
+-- the word that begins at the index `from` of a line, without the space behind it
+abbrev pub wordAt : ℕ → List ℕ → List ℕ
+wordAt from l = frontTo 32 (drop from l)
+
+-- the place behind that word, if the line stands at the place `at`
+abbrev pub wordEnd : ℕ → ℕ → List ℕ → ℕ
+wordEnd at from l = at + from + length (wordAt from l)
+
+-- with so many code words lent and used: the code that the word says
+abbrev pub codeFrom : ℕ → ℕ → ℕ → ℕ → List ℕ → Read ℕ
+codeFrom lent used at from l = numberOf (roomAfter (min 4096 lent) used) (at + from) (wordAt from l)
+
+-- the codes whose words fill l
 abbrev pub wordsOf : ℕ → ℕ → ℕ → List ℕ → Read (List ℕ)
 wordsOf lent used at l = codesRead (min 4096 lent) used at (split 32 l)
 
@@ -82,9 +90,9 @@ contextLine lent used at s = line (contextIn lent used) at (split 10 (drop at s)
 abbrev pub linesFrom : ℕ → ℕ → ℕ → List ℕ → Read (List (List ℕ))
 linesFrom lent n at s = linesOf (min 4096 lent) n 0 at (split 10 (drop at s))
 
--- what stands behind the `k=` line, from the place `at` on: the `contexts=` line, and its `c=` lines
-unfoldable pub readBehind : ℕ → ℕ → ℕ → ℕ → List ℕ → Read Sheet
-readBehind offsets codes k at s =
+-- the rest of a sheet, behind its `k=` line from the place `at` on: the `contexts=` line, and its `c=` lines
+unfoldable pub readRest : ℕ → ℕ → ℕ → ℕ → List ℕ → Read Sheet
+readRest offsets codes k at s =
     numberLine contextsKey (min 257 offsets) at s then λ n.
     linesOf (min 4096 codes) (n .got) 0 (n .next) (n .lines) then λ site. value (record { k = k; site = site })
 

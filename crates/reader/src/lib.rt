@@ -4,7 +4,7 @@ ghost use mathlib.Core.Path.{_≡_};
 ghost use Prim.Native.Nat.{_≤_};
 ghost use lib.ListN.{length};
 ghost use Rattle.sheet.specs.Reading.{readSheet};
-ghost use Rattle.reader.specs.Parts.{wordsLent, readBehind, wholeBy};
+ghost use Rattle.reader.specs.Parts.{wordsLent, readRest, wholeBy};
 ghost use Rattle.reader.specs.Fronts.{Taken, offsetsUsed, codesUsed};
 ghost use Rattle.reader.specs.Calls.{Reads};
 
@@ -39,10 +39,10 @@ fn whole(k: u16, contexts: u16, last: Part) -> Reading
     }
 }
 
-// Reads what stands behind the `k=` line, from `at` on, into the front of the tables.
-fn read_behind(sheet: &[u8], at: usize, k: u16, offsets: &mut [u16], codes: &mut [u16]) -> Reading
+// Reads the rest of the sheet, behind its `k=` line from `at` on, into the front of the tables.
+fn read_rest(sheet: &[u8], at: usize, k: u16, offsets: &mut [u16], codes: &mut [u16]) -> Reading
     requires { ⌜ at ≤ length (now sheet) ⌝ }
-    ensures { λ r. ⌜ Taken (readBehind (wordsLent offsets) (wordsLent codes) k at (now (sheet .entry))) (now (offsets .exit)) (now (codes .exit)) r ⌝ }
+    ensures { λ r. ⌜ Taken (readRest (wordsLent offsets) (wordsLent codes) k at (now (sheet .entry))) (now (offsets .exit)) (now (codes .exit)) r ⌝ }
 {
     let line = line::number_line_from(sheet, at, b"contexts=", words::smaller(257, offsets.len()));
     let Part::Read { value: n, next } = line else {
@@ -60,7 +60,7 @@ fn read_into(sheet: &[u8], offsets: &mut [u16], codes: &mut [u16]) -> Reading
     let Part::Read { value: k, next } = line else {
         return whole(0, 0, line);
     };
-    read_behind(sheet, next, k, offsets, codes)
+    read_rest(sheet, next, k, offsets, codes)
 }
 
 // How many offset words hold data.

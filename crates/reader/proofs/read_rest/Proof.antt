@@ -1,7 +1,7 @@
 use Rattle.reader.proofs.Steps.{contexts-refused, lines-begin, lines-read}
 use borrow.Author.Needs.{needs}
-use Rattle.reader.proofs.read_behind.Statement.{statement}
-use Rattle.reader.proofs.read_behind.Tie as tie
+use Rattle.reader.proofs.read_rest.Statement.{statement}
+use Rattle.reader.proofs.read_rest.Tie as tie
 
 -- before the `contexts=` line is taken apart: its reading, the room for its number, and the entry
 abbrev reading : tie.After-line → tie.After-number-line-from
@@ -30,8 +30,8 @@ returns-2 c =
     let l = lines .before .before .before .before in
     lines-read _ _ _ _ _ (room l .smaller .ensures) (reading l .number-line-from .ensures) (entry l .pre) (l .line .given .1) _ (lines .context-lines .ensures) (c .whole2 .ensures)
 
-pub read-behind-spec : {M : Type 1} → statement M
-read-behind-spec =
+pub read-rest-spec : {M : Type 1} → statement M
+read-rest-spec =
     tie.close
     (tie.spec
     (λ c. search needs)
