@@ -18,6 +18,7 @@ use Rattle.reader.proofs.Keys.{line-broken, line-behind, tail-end}
 use Rattle.reader.proofs.Ends.{line-ended}
 use Rattle.reader.proofs.Worded.{stored-refused}
 
+-- behind the key something stands
 context-some : (most used at : ℕ) (l : List ℕ) → 0 < length l → contextOf most used at l ≡ codesRead most used at (split 32 l)
 unfolding contextOf
 context-some most used at [] h = absurd (omega arith)
@@ -30,8 +31,12 @@ module _ (l : List ℕ) (at : ℕ) {m : ℕ} (q : m ≡ matchedBy cKey l) (used 
       × Stored (contextIn (length old) used at l) used old now
   context-broken h = stored-refused (at + length l) (line-broken cKey l at q (contextOf (min 4096 (length old)) used) h)
 
+  -- what stands behind them
+  abbrev rest : List ℕ
+  rest = take (length l - m) (drop m l)
+
   module _ (h : 2 ≤ m) where
-    is-behind : contextIn (length old) used at l ≡ contextOf (min 4096 (length old)) used (at + m) (take (length l - m) (drop m l))
+    is-behind : contextIn (length old) used at l ≡ contextOf (min 4096 (length old)) used (at + m) rest
     is-behind = line-behind cKey l at q (contextOf (min 4096 (length old)) used) h
 
     pub context-empty : m ≡ length l → used ≤ min 4096 (length old)
@@ -48,20 +53,20 @@ module _ (l : List ℕ) (at : ℕ) {m : ℕ} (q : m ≡ matchedBy cKey l) (used 
         )
 
     pub context-codes : m ≤ length l → (m ≡ length l → ⊥) → {now : List ℕ} {r : Part}
-        → r ≡ partBy (codesAfter used) (at + m + length (take (length l - m) (drop m l))) (wordsOf (length old) used (at + m) (take (length l - m) (drop m l)))
-        → Stored (wordsOf (length old) used (at + m) (take (length l - m) (drop m l))) used old now
+        → (r ≡ partBy (codesAfter used) (at + m + length rest) (wordsOf (length old) used (at + m) rest))
+        × Stored (wordsOf (length old) used (at + m) rest) used old now
         → (r ≡ partBy (codesAfter used) (at + length l) (contextIn (length old) used at l))
         × Stored (contextIn (length old) used at l) used old now
-    context-codes i n e s =
-        let some : 0 < length (take (length l - m) (drop m l)) = simp (length-take, length-drop) (omega arith) in
-        let x = context-some (min 4096 (length old)) used (at + m) (take (length l - m) (drop m l)) some in
-        (rw (is-behind, x, ← tail-end cKey l at q i) e, rw (is-behind, x) s)
+    context-codes i n s =
+        let some : 0 < length rest = simp (length-take, length-drop) (omega arith) in
+        let x = context-some (min 4096 (length old)) used (at + m) rest some in
+        (rw (is-behind, x, ← tail-end cKey l at q i) (s .0), rw (is-behind, x) (s .1))
 
 -- the line's text is read, and then its end
 pub context-ended : (s : List ℕ) (at used : ℕ) (old : List ℕ) → at ≤ length s → {l : List ℕ} → l ≡ lineAt at s → {now : List ℕ} {r z : Part}
-    → r ≡ partBy (codesAfter used) (at + length l) (contextIn (length old) used at l)
-    → Stored (contextIn (length old) used at l) used old now → z ≡ endedBy (length s) r
+    → (r ≡ partBy (codesAfter used) (at + length l) (contextIn (length old) used at l))
+    × Stored (contextIn (length old) used at l) used old now → z ≡ endedBy (length s) r
     → (z ≡ lineBy (codesAfter used) (contextLine (length old) used at s))
     × Stored (contextIn (length old) used at (lineAt at s)) used old now
-context-ended s at used old h {l} q e S g =
-    (line-ended (contextIn (length old) used) s at h (codesAfter used) q e g, rw (← q) S)
+context-ended s at used old h {l} q e g =
+    (line-ended (contextIn (length old) used) s at h (codesAfter used) q (e .0) g, rw (← q) (e .1))

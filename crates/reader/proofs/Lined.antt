@@ -61,10 +61,10 @@ lined-start sheet offsets codes at n h room =
 module _ {sheet offsets₀ offsets codes₀ codes : List ℕ} {at n from used i : ℕ} (W : LinesDone sheet offsets₀ offsets codes₀ codes at n from used i) where
   -- r is the reading of the line at `from`, which left the codes `left`
   module _ (turn : i < n) {left : List ℕ} {r : Part}
-      (a : r ≡ lineBy (codesAfter used) (contextLine (length codes) used from sheet))
-      (S : Stored (contextIn (length codes) used from (lineAt from sheet)) used codes left) where
+      (a : (r ≡ lineBy (codesAfter used) (contextLine (length codes) used from sheet))
+      × Stored (contextIn (length codes) used from (lineAt from sheet)) used codes left) where
     is-read : lineBy (codesAfter used) (contextLine (length codes₀) used from sheet) ≡ r
-    is-read = sym (a ∙ rw (W .codes-long))
+    is-read = sym (a .0 ∙ rw (W .codes-long))
 
     one-left : n - i ≡ suc (n - (i + 1))
     one-left = omega arith
@@ -85,7 +85,7 @@ module _ {sheet offsets₀ offsets codes₀ codes : List ℕ} {at n from used i 
       as-stored = rw (W .codes-long) (placed .text)
 
       fits : v ≤ min 4096 (length codes₀)
-      fits = omega (arith, one-read .2, S .room _ as-stored, W .codes-long)
+      fits = omega (arith, one-read .2, a .1 .room _ as-stored, W .codes-long)
 
       pub lined-next : length left ≡ length codes → LinesDone sheet offsets₀ (set offsets (i + 1) v) codes₀ left at n m v (i + 1)
       unfolding linesOf
@@ -103,7 +103,7 @@ module _ {sheet offsets₀ offsets codes₀ codes : List ℕ} {at n from used i 
             offsets-long = simp length-set (W .offsets-long);
             codes-long = long ∙ W .codes-long;
             offsets-front = rw (add-one (i + 1), take-suc-set offsets (i + 1) v (omega (arith, W .limit, W .offsets-long)), W .offsets-front, offsets-snoc 0 (W .done) cs, u);
-            codes-front = ap (λ (k : ℕ). take k left) (one-read .2) ∙ S .front cs as-stored ∙ rw (all-snoc (W .done) cs, W .codes-front);
+            codes-front = ap (λ (k : ℕ). take k left) (one-read .2) ∙ a .1 .front cs as-stored ∙ rw (all-snoc (W .done) cs, W .codes-front);
             same = W .same ∙ rw (one-left, one-read .1, placed .rest, ← one-read .2, ← one-read .3) (after-cons (W .done) cs _);
           }
 

@@ -14,7 +14,10 @@ abbrev μ-loop : tie.MeasureT-loop
 
 -- of a word that was read
 fits : (c : tie.After-known-told Inv-loop μ-loop) → Fitting (c .before .before .before .before .loop .inv) (c .before .r .given .0 .1 .0)
-fits c = let r = c .before in let code-from = r .before .before in word-fits (code-from .before .loop .inv) (code-from .code-from .ensures) (r .r .given .1)
+fits c =
+    let r = c .before in
+    let code-from = r .before .before in
+    word-fits (code-from .before .loop .inv) (code-from .code-from .ensures) (r .r .given .1)
 
 loop-holds : tie.Need-loop-holds Inv-loop μ-loop
 loop-holds c = worded-start _ _ _ _ (c .before .before .pre .1)

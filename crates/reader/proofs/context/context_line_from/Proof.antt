@@ -5,10 +5,10 @@ use Rattle.reader.proofs.context.context_line_from.Tie as tie
 
 returns : tie.Need-returns
 returns c =
-    let context-in = c .before .before .before in
-    let line-from = context-in .before .before in
-    let s = line-from .before .before .before in
-    context-ended _ _ _ _ (s .pre .0) (line-from .line-from .ensures .0) (context-in .context-in .ensures .0) (context-in .context-in .ensures .1) (c .line-end .ensures)
+    let context = c .before .before .before in
+    let line = context .before .before in
+    let s = line .before .before .before in
+    context-ended _ _ _ _ (s .pre .0) (line .line-from .ensures .0) (context .context-in .ensures) (c .line-end .ensures)
 
 pub context-line-from-spec : {M : Type 1} → statement M
 context-line-from-spec =
