@@ -41,7 +41,8 @@ module _ {A : Type 0} (read : ℕ → List ℕ → Read A) (s : List ℕ) (at : 
   inside : at + length (lineAt at s) ≤ length s
   inside = omega (arith, up-to-within 10 (drop at s), length-drop at s)
 
-  ended-by : (f : A → ℕ) (x : Read A) → read at (lineAt at s) ≡ x → endedBy (length s) (partBy f (at + length (lineAt at s)) x) ≡ lineBy f (line read at (split 10 (drop at s)))
+  ended-by : (f : A → ℕ) (x : Read A) → read at (lineAt at s) ≡ x
+      → endedBy (length s) (partBy f (at + length (lineAt at s)) x) ≡ lineBy f (line read at (split 10 (drop at s)))
   unfolding endedBy partBy lineBy
   ended-by f (refused n p) e = rw (line-refused read s at refl e inside)
   ended-by f (value v) e =
@@ -50,7 +51,8 @@ module _ {A : Type 0} (read : ℕ → List ℕ → Read A) (s : List ℕ) (at : 
       (λ g. rw (lt-ltb (at + length (lineAt at s)) (length s) g, line-more read s at refl e g))
 
   -- the line's text, read and stepped over, is the line read
-  pub line-ended : (f : A → ℕ) {l : List ℕ} → l ≡ lineAt at s → {r z : Part} → r ≡ partBy f (at + length l) (read at l) → z ≡ endedBy (length s) r → z ≡ lineBy f (line read at (split 10 (drop at s)))
+  pub line-ended : (f : A → ℕ) {l : List ℕ} → l ≡ lineAt at s → {r z : Part} → r ≡ partBy f (at + length l) (read at l)
+      → z ≡ endedBy (length s) r → z ≡ lineBy f (line read at (split 10 (drop at s)))
   line-ended f q e g = g ∙ rw (e, q) (ended-by f (read at (lineAt at s)) refl)
 
   same-line : {l m : Line A} → value l ≡ value m → Placed read s at l → Placed read s at m

@@ -47,12 +47,15 @@ module _ (w : List ℕ) (room at : ℕ) {n : ℕ} (counted : n ≡ length (digit
       no-room h = rw (ne-eqb _ _ is-some, le-ltb 65535 _ is-small, le-ltb (valueOf (digitsIn w)) room (rw is-value at h))
 
       module _ (fits : v < room) where
+        has-room : valueOf (digitsIn w) < room
+        has-room = rw is-value at fits
+
         pub bad-behind : n < length w → part.Refused 9 (at + n) ≡ partBy itself (at + length w) (numberOf room at w)
         unfolding numberOf partBy
         bad-behind h =
-            rw (ne-eqb _ _ is-some, le-ltb 65535 _ is-small, lt-ltb (valueOf (digitsIn w)) room (rw is-value at fits), lt-ltb _ _ (rw counted at h), counted)
+            rw (ne-eqb _ _ is-some, le-ltb 65535 _ is-small, lt-ltb _ room has-room, lt-ltb _ _ (rw counted at h), counted)
 
         pub number-read : length w ≤ n → part.Read v (at + length w) ≡ partBy itself (at + length w) (numberOf room at w)
         unfolding numberOf partBy
         number-read h =
-            rw (ne-eqb _ _ is-some, le-ltb 65535 _ is-small, lt-ltb (valueOf (digitsIn w)) room (rw is-value at fits), le-ltb _ _ (rw counted at h), ← is-value)
+            rw (ne-eqb _ _ is-some, le-ltb 65535 _ is-small, lt-ltb _ room has-room, le-ltb _ _ (rw counted at h), ← is-value)

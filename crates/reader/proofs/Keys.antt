@@ -62,7 +62,9 @@ module _ {A : Type 0} (read : ℕ → List ℕ → Read A) where
   key-behind (x ∷ key) [] at h = absurd (not-suc-le-zero h)
   key-behind (x ∷ key) (b ∷ l) at h =
       by-eq b x
-      (λ e. let f : suc at + length key ≡ at + suc (length key) = omega arith in rw (eq-eqb b x e, ← f) (key-behind key l (suc at) (le-of-suc-le-suc (rw (eq-eqb b x e) at h))))
+      (λ e.
+      let f : suc at + length key ≡ at + suc (length key) = omega arith in
+      rw (eq-eqb b x e, ← f) (key-behind key l (suc at) (le-of-suc-le-suc (rw (eq-eqb b x e) at h))))
       (λ n. absurd (not-suc-le-zero (rw (ne-eqb b x n) at h)))
 
   key-broken : (key l : List ℕ) (at : ℕ) → matchedBy key l < length key → behind key read at l ≡ refused 9 (at + matchedBy key l)
@@ -71,7 +73,9 @@ module _ {A : Type 0} (read : ℕ → List ℕ → Read A) where
   key-broken (x ∷ key) [] at h = rw add-zero
   key-broken (x ∷ key) (b ∷ l) at h =
       by-eq b x
-      (λ e. let f : suc at + matchedBy key l ≡ at + suc (matchedBy key l) = omega arith in rw (eq-eqb b x e, ← f) (key-broken key l (suc at) (le-of-suc-le-suc (rw (eq-eqb b x e) at h))))
+      (λ e.
+      let f : suc at + matchedBy key l ≡ at + suc (matchedBy key l) = omega arith in
+      rw (eq-eqb b x e, ← f) (key-broken key l (suc at) (le-of-suc-le-suc (rw (eq-eqb b x e) at h))))
       (λ n. rw (ne-eqb b x n, add-zero))
 
 -- m bytes of the key are there; the part behind it goes to the line's end

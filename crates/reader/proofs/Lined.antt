@@ -40,7 +40,8 @@ pub record LinesDone (sheet offsets₀ offsets codes₀ codes : List ℕ) (at n 
   pub codes-front : take used codes ≡ allCodes done
   pub same : linesFrom (length codes₀) n at sheet ≡ after done (linesOf (min 4096 (length codes₀)) (n - i) used from (split 10 (drop from sheet)))
 
-pub lined-start : (sheet offsets codes : List ℕ) (at n : ℕ) → at ≤ length sheet → n < min 257 (length offsets) → LinesDone sheet (set offsets 0 0) (set offsets 0 0) codes codes at n at 0 0
+pub lined-start : (sheet offsets codes : List ℕ) (at n : ℕ) → at ≤ length sheet → n < min 257 (length offsets)
+    → LinesDone sheet (set offsets 0 0) (set offsets 0 0) codes codes at n at 0 0
 unfolding offsetsFrom allCodes
 lined-start sheet offsets codes at n h room =
     record {
@@ -58,7 +59,8 @@ lined-start sheet offsets codes at n h room =
       same = let z : n - 0 ≡ n = omega arith in sym (after-none _ ∙ rw z);
     }
 
-module _ {sheet offsets₀ offsets codes₀ codes : List ℕ} {at n from used i : ℕ} (W : LinesDone sheet offsets₀ offsets codes₀ codes at n from used i) where
+module _ {sheet offsets₀ offsets codes₀ codes : List ℕ} {at n from used i : ℕ}
+    (W : LinesDone sheet offsets₀ offsets codes₀ codes at n from used i) where
   -- r is the reading of the line at `from`, which left the codes `left`
   module _ (turn : i < n) {left : List ℕ} {r : Part}
       (a : (r ≡ lineBy (codesAfter used) (contextLine (length codes) used from sheet))
@@ -91,6 +93,7 @@ module _ {sheet offsets₀ offsets codes₀ codes : List ℕ} {at n from used i 
       unfolding linesOf
       lined-next long =
           let cs = one-read .0 .got in
+          let room : i + 1 < length offsets = omega (arith, W .limit, W .offsets-long) in
           let u : 0 + length (allCodes (W .done)) + length cs ≡ v = omega (arith, one-read .2, W .count) in
           record {
             done = W .done ++ (cs ∷ []);
@@ -102,7 +105,7 @@ module _ {sheet offsets₀ offsets codes₀ codes : List ℕ} {at n from used i 
             limit = W .limit;
             offsets-long = simp length-set (W .offsets-long);
             codes-long = long ∙ W .codes-long;
-            offsets-front = rw (add-one (i + 1), take-suc-set offsets (i + 1) v (omega (arith, W .limit, W .offsets-long)), W .offsets-front, offsets-snoc 0 (W .done) cs, u);
+            offsets-front = rw (add-one (i + 1), take-suc-set offsets (i + 1) v room, W .offsets-front, offsets-snoc 0 (W .done) cs, u);
             codes-front = ap (λ (k : ℕ). take k left) (one-read .2) ∙ a .1 .front cs as-stored ∙ rw (all-snoc (W .done) cs, W .codes-front);
             same = W .same ∙ rw (one-left, one-read .1, placed .rest, ← one-read .2, ← one-read .3) (after-cons (W .done) cs _);
           }
@@ -118,7 +121,8 @@ module _ {sheet offsets₀ offsets codes₀ codes : List ℕ} {at n from used i 
     pub lined-end : length sheet ≤ from → Held (linesFrom (length codes₀) n at sheet) (length sheet) offsets codes (part.Read used from)
     unfolding linesOf after partBy
     lined-end h =
-        let x : linesFrom (length codes₀) n at sheet ≡ value (W .done) = W .same ∙ rw (none-left, nothing-none from (drop from sheet) (simp length-drop (omega arith)), append-nil) in
+        let none = nothing-none from (drop from sheet) (simp length-drop (omega arith)) in
+        let x : linesFrom (length codes₀) n at sheet ≡ value (W .done) = W .same ∙ rw (none-left, none, append-nil) in
         let e : from ≡ length sheet = omega (arith, W .within) in
         record {
           answer = rw (x, ← W .count, e);

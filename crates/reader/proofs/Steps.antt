@@ -43,7 +43,9 @@ taken-by k n end (value site) count H =
 
 -- r is the reading of the `k=` line
 module _ (lo lc : ℕ) (s : List ℕ) {r : Part} (a : r ≡ lineBy itself (numberLine kKey 65536 0 s)) where
-  pub k-refused : {n p : ℕ} → r ≡ part.Refused n p → {z : Reading} → z ≡ wholeBy 0 0 r → {offsets codes : List ℕ} → Taken (readSheet lo lc s) offsets codes z
+  -- a refusal is the sheet's
+  pub k-refused : {n p : ℕ} → r ≡ part.Refused n p → {z : Reading} → z ≡ wholeBy 0 0 r → {offsets codes : List ℕ}
+      → Taken (readSheet lo lc s) offsets codes z
   unfolding readSheet
   k-refused e g = taken-refused (rw (line-refused itself _ (sym a ∙ e))) e 0 0 g
 
@@ -54,19 +56,24 @@ module _ (lo lc : ℕ) (s : List ℕ) {r : Part} (a : r ≡ lineBy itself (numbe
     k-placed : Placed (behind kKey (numberOf 65536)) s 0 (k-line .0)
     k-placed = line-placed _ s 0 zero-le (k-line .1)
 
+    -- the place behind it is within the sheet
     pub k-within : next ≤ length s
     k-within = rw (k-line .3) (k-placed .within)
 
+    -- and who reads the rest from there, reads the sheet
     pub k-read : {z : Reading} {offsets codes : List ℕ} → Taken (readRest lo lc k next s) offsets codes z → Taken (readSheet lo lc s) offsets codes z
     unfolding readSheet readRest
     k-read T = rw (k-line .1, k-placed .rest, ← k-line .2, ← k-line .3) T
 
 -- r is the reading of the `contexts=` line, which begins at the place `at`
-module _ (lo lc k : ℕ) (s : List ℕ) (at : ℕ) {room : ℕ} (q : room ≡ min 257 lo) {r : Part} (a : r ≡ lineBy itself (numberLine contextsKey room at s)) where
+module _ (lo lc k : ℕ) (s : List ℕ) (at : ℕ) {room : ℕ} (q : room ≡ min 257 lo)
+    {r : Part} (a : r ≡ lineBy itself (numberLine contextsKey room at s)) where
   is-read : lineBy itself (numberLine contextsKey (min 257 lo) at s) ≡ r
   is-read = sym (a ∙ rw q)
 
-  pub contexts-refused : {n p : ℕ} → r ≡ part.Refused n p → {z : Reading} → z ≡ wholeBy k 0 r → {offsets codes : List ℕ} → Taken (readRest lo lc k at s) offsets codes z
+  -- a refusal is that of the rest
+  pub contexts-refused : {n p : ℕ} → r ≡ part.Refused n p → {z : Reading} → z ≡ wholeBy k 0 r → {offsets codes : List ℕ}
+      → Taken (readRest lo lc k at s) offsets codes z
   unfolding readRest
   contexts-refused e g = taken-refused (rw (line-refused itself _ (is-read ∙ e))) e k 0 g
 
@@ -77,10 +84,14 @@ module _ (lo lc k : ℕ) (s : List ℕ) (at : ℕ) {room : ℕ} (q : room ≡ mi
     c-placed : Placed (behind contextsKey (numberOf (min 257 lo))) s at (c-line .0)
     c-placed = line-placed _ s at h (c-line .1)
 
+    -- the place behind it is within the sheet, and so many contexts have room
     pub lines-begin : (next ≤ length s) × (n < min 257 lo)
     lines-begin = (rw (c-line .3) (c-placed .within), rw (c-line .2) (behind-small _ contextsKey _ _ (c-placed .text) .fits))
 
+    -- and who reads so many `c=` lines from there, reads the rest
     pub lines-read : (end : ℕ) {offsets codes : List ℕ} {last : Part} → Held (linesFrom lc n next s) end offsets codes last
         → {z : Reading} → z ≡ wholeBy k n last → Taken (readRest lo lc k at s) offsets codes z
     unfolding readRest
-    lines-read end H g = rw (g, H .answer, c-line .1, c-placed .rest, ← c-line .2, ← c-line .3) (taken-by k n end (linesFrom lc n next s) (λ site. lines-count _ n 0 next _) H)
+    lines-read end H g =
+        let T = taken-by k n end (linesFrom lc n next s) (λ site. lines-count _ n 0 next _) H in
+        rw (g, H .answer, c-line .1, c-placed .rest, ← c-line .2, ← c-line .3) T

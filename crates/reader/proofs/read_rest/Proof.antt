@@ -1,3 +1,4 @@
+-- `reader::read_rest` meets its contract: the `contexts=` line is refused, or its `c=` lines are read behind it.
 use Rattle.reader.proofs.Steps.{contexts-refused, lines-begin, lines-read}
 use borrow.Author.Needs.{needs}
 use Rattle.reader.proofs.read_rest.Statement.{statement}
@@ -28,7 +29,9 @@ returns-2 : tie.Need-returns-2
 returns-2 c =
     let lines = c .before .before .before .before .before in
     let l = lines .before .before .before .before in
-    lines-read _ _ _ _ _ (room l .smaller .ensures) (reading l .number-line-from .ensures) (entry l .pre) (l .line .given .1) _ (lines .context-lines .ensures) (c .whole2 .ensures)
+    let a = reading l .number-line-from .ensures in
+    let e = l .line .given .1 in
+    lines-read _ _ _ _ _ (room l .smaller .ensures) a (entry l .pre) e _ (lines .context-lines .ensures) (c .whole2 .ensures)
 
 pub read-rest-spec : {M : Type 1} → statement M
 read-rest-spec =

@@ -1,3 +1,4 @@
+-- `reader::whole` meets its contract: each return is an arm of `wholeBy`.
 use Rattle.reader.specs.Parts.{wholeBy}
 use borrow.Author.Needs.{needs}
 use Rattle.reader.proofs.whole.Statement.{statement}

@@ -1,3 +1,4 @@
+-- `reader::context::codes_in` meets its contract: `Worded` is its invariant.
 use native.Mathlib.Omega.{arith}
 use Prim.Native.Nat.{_-_}
 use lib.ListN.{length}

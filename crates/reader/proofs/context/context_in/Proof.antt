@@ -1,3 +1,4 @@
+-- `reader::context::context_in` meets its contract: a broken key, an empty context, or the codes behind the key.
 use native.Mathlib.Omega.{arith}
 use lib.ListN.{length-take, length-drop}
 use Rattle.reader.proofs.Contexts.{context-broken, context-empty, context-codes}

@@ -1,3 +1,4 @@
+-- `reader::context::context_line_from` meets its contract: the text of the line, and then its end.
 use Rattle.reader.proofs.Contexts.{context-ended}
 use borrow.Author.Needs.{needs}
 use Rattle.reader.proofs.context.context_line_from.Statement.{statement}

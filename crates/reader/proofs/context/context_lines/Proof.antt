@@ -1,3 +1,4 @@
+-- `reader::context::context_lines` meets its contract: `LinesDone` is its invariant.
 use Prim.Native.Nat.{_-_}
 use lib.ListN.{length-set}
 use mathlib.Core.Path.{_∙_}

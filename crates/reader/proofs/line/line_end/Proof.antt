@@ -1,3 +1,4 @@
+-- `reader::line::line_end` meets its contract: each return is an arm of `endedBy`.
 use Rattle.reader.proofs.Ends.{ended-refused, ended-none, ended-next}
 use borrow.Author.Needs.{needs}
 use Rattle.reader.proofs.line.line_end.Statement.{statement}

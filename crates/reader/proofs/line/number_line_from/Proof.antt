@@ -1,3 +1,4 @@
+-- `reader::line::number_line_from` meets its contract: the text of the line, and then its end.
 use Rattle.reader.specs.Parts.{itself}
 use Rattle.reader.proofs.Ends.{line-ended}
 use borrow.Author.Needs.{needs}
