@@ -15,7 +15,7 @@ use Rattle.reader.specs.declared.Part.the-variants as part
 use Rattle.reader.specs.Parts.{partBy, lineBy, codesAfter, endedBy, matchedBy, lineAt, wordsOf, contextIn, contextLine}
 use Rattle.reader.specs.Fronts.{Stored}
 use Rattle.reader.proofs.Keys.{line-broken, line-behind, tail-end}
-use Rattle.reader.proofs.Ends.{line-ended}
+use Rattle.reader.proofs.Ends.{line-passed, line-ended}
 use Rattle.reader.proofs.Worded.{stored-refused}
 
 -- behind the key something stands
@@ -62,11 +62,18 @@ module _ (l : List ℕ) (at : ℕ) {m : ℕ} (q : m ≡ matchedBy cKey l) (used 
         let x = context-some (min 4096 (length old)) used (at + m) rest some in
         (rw (is-behind, x, ← tail-end cKey l at q i) (s .0), rw (is-behind, x) (s .1))
 
--- the line's text is read, and then its end
-pub context-ended : (s : List ℕ) (at used : ℕ) (old : List ℕ) → at ≤ length s → {l : List ℕ} → l ≡ lineAt at s → {now : List ℕ} {r z : Part}
-    → (r ≡ partBy (codesAfter used) (at + length l) (contextIn (length old) used at l))
-    × Stored (contextIn (length old) used at l) used old now → z ≡ endedBy (length s) r
-    → (z ≡ lineBy (codesAfter used) (contextLine (length old) used at s))
-    × Stored (contextIn (length old) used at (lineAt at s)) used old now
-context-ended s at used old h {l} q e g =
-    (line-ended (contextIn (length old) used) s at h (codesAfter used) q (e .0) g, rw (← q) (e .1))
+-- r is the reading of the line's text l, with what is stored
+module _ (s : List ℕ) (at used : ℕ) (old : List ℕ) (h : at ≤ length s) {l : List ℕ} (q : l ≡ lineAt at s) {now : List ℕ} {r : Part}
+    (a : (r ≡ partBy (codesAfter used) (at + length l) (contextIn (length old) used at l))
+    × Stored (contextIn (length old) used at l) used old now) where
+  -- a refusal is the line's
+  pub context-passed : {n p : ℕ} → r ≡ part.Refused n p
+      → (r ≡ lineBy (codesAfter used) (contextLine (length old) used at s))
+      × Stored (contextIn (length old) used at (lineAt at s)) used old now
+  context-passed e = (line-passed (contextIn (length old) used) s at h (codesAfter used) q (a .0) e, rw (← q) (a .1))
+
+  -- and behind a text that was read stands the line's end
+  pub context-ended : {v next : ℕ} → r ≡ part.Read v next → {z : Part} → z ≡ endedBy (length s) v next
+      → (z ≡ lineBy (codesAfter used) (contextLine (length old) used at s))
+      × Stored (contextIn (length old) used at (lineAt at s)) used old now
+  context-ended e g = (line-ended (contextIn (length old) used) s at h (codesAfter used) q (a .0) e g, rw (← q) (a .1))

@@ -43,10 +43,9 @@ codesAfter used cs = used + length cs
 abbrev pub codesIn : List (List ℕ) → ℕ
 codesIn site = length (allCodes site)
 
--- over the byte 10 behind a line that was read: 9 at the sheet's end, if none stands there
-unfoldable pub endedBy : ℕ → Part → Part
-endedBy end (part.Read v next) = cond (ltb next end) (part.Read v (next + 1)) (part.Refused 9 next)
-endedBy end (part.Refused n p) = part.Refused n p
+-- over the byte 10 at `next`, behind a line that was read as v: 9 there at the sheet's end, if none stands there
+unfoldable pub endedBy : ℕ → ℕ → ℕ → Part
+endedBy end v next = cond (ltb next end) (part.Read v (next + 1)) (part.Refused 9 next)
 
 -- how many bytes of the key stand at the front
 unfoldable pub matchedBy : List ℕ → List ℕ → ℕ

@@ -93,7 +93,10 @@ fn context_line_from(sheet: &[u8], at: usize, codes: &mut [u16], used: usize) ->
 {
     let l = line_from(sheet, at);
     let r = context_in(l, at, codes, used);
-    line_end(r, sheet.len())
+    let Part::Read { value, next } = r else {
+        return r;
+    };
+    line_end(value, next, sheet.len())
 }
 
 // Reads n `c=` lines from `at` on, and then the sheet's end.
