@@ -14,15 +14,18 @@ use Rattle.reader.specs.Calls.{Reads}
 
 -- a refusal, by its number and its place
 module _ {n p : ℕ} where
+  -- what is told of a refusal is told of no other answer
   pub tells-refusal : (r : Reading) → ReadingTells r n (p ∷ []) → r ≡ reading.Refused n p
   tells-refusal (reading.Sheet k c m) t = absurd (omega (arith, ap length (t .1)))
   tells-refusal (reading.Refused a b) t = let q : b ≡ p = cc (t .1) in λ i. reading.Refused (t .0 i) (q i)
 
+  -- and it is told of the refusal
   pub refusal-tells : {r : Reading} → r ≡ reading.Refused n p → ReadingTells r n (p ∷ [])
   refusal-tells e = (ap readingNumber e, ap readingValues e)
 
 -- a sheet, by its three values
 module _ {k c m : ℕ} where
+  -- what is told of a sheet is told of no other answer
   pub tells-sheet : (r : Reading) → ReadingTells r 0 (k ∷ c ∷ m ∷ []) → r ≡ reading.Sheet k c m
   tells-sheet (reading.Sheet a b d) t =
       let x : a ≡ k = cc (t .1) in
@@ -30,6 +33,7 @@ module _ {k c m : ℕ} where
       let z : d ≡ m = cc (t .1) in λ i. reading.Sheet (x i) (y i) (z i)
   tells-sheet (reading.Refused a b) t = absurd (omega (arith, ap length (t .1)))
 
+  -- and it is told of the sheet
   pub sheet-tells : {r : Reading} → r ≡ reading.Sheet k c m → ReadingTells r 0 (k ∷ c ∷ m ∷ [])
   sheet-tells e = (ap readingNumber e, ap readingValues e)
 
@@ -39,6 +43,7 @@ unfolding readingOf
 tells-reading (value s) r t = tells-sheet r t
 tells-reading (refused n p) r t = tells-refusal r t
 
+-- and its answer tells them
 pub reading-tells : (x : Read Sheet) {r : Reading} → r ≡ readingOf x → ReadingTells r (readNumber x) (readValues sheetValues x)
 unfolding readingOf
 reading-tells (value s) e = sheet-tells e

@@ -26,6 +26,7 @@ context-some most used at (b ∷ l) h = refl
 
 -- m bytes of the key are there
 module _ (l : List ℕ) (at : ℕ) {m : ℕ} (q : m ≡ matchedBy cKey l) (used : ℕ) (old : List ℕ) where
+  -- a broken key: 9 at its first other byte
   pub context-broken : m < 2 → {now : List ℕ}
       → (part.Refused 9 (at + m) ≡ partBy (codesAfter used) (at + length l) (contextIn (length old) used at l))
       × Stored (contextIn (length old) used at l) used old now
@@ -36,9 +37,11 @@ module _ (l : List ℕ) (at : ℕ) {m : ℕ} (q : m ≡ matchedBy cKey l) (used 
   rest = take (length l - m) (drop m l)
 
   module _ (h : 2 ≤ m) where
+    -- a whole key: the context behind it
     is-behind : contextIn (length old) used at l ≡ contextOf (min 4096 (length old)) used (at + m) rest
     is-behind = line-behind cKey l at q (contextOf (min 4096 (length old)) used) h
 
+    -- nothing behind the key is an empty context
     pub context-empty : m ≡ length l → used ≤ min 4096 (length old)
         → (part.Read used (at + m) ≡ partBy (codesAfter used) (at + length l) (contextIn (length old) used at l))
         × Stored (contextIn (length old) used at l) used old old
@@ -52,6 +55,7 @@ module _ (l : List ℕ) (at : ℕ) {m : ℕ} (q : m ≡ matchedBy cKey l) (used 
           },
         )
 
+    -- what stands behind the key are codes
     pub context-codes : m ≤ length l → (m ≡ length l → ⊥) → {now : List ℕ} {r : Part}
         → (r ≡ partBy (codesAfter used) (at + m + length rest) (wordsOf (length old) used (at + m) rest))
         × Stored (wordsOf (length old) used (at + m) rest) used old now

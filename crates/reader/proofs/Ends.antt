@@ -19,10 +19,12 @@ use Rattle.reader.proofs.Enums.{part-value, part-refused}
 
 -- the ways of `line_end`
 module _ (end v next : ℕ) where
+  -- at the end of the sheet no byte 10 stands
   pub ended-none : end ≤ next → part.Refused 9 next ≡ endedBy end v next
   unfolding endedBy
   ended-none h = rw (le-ltb next end h)
 
+  -- before it, a byte 10 is stepped over
   pub ended-next : next < end → part.Read v (next + 1) ≡ endedBy end v next
   unfolding endedBy
   ended-next h = rw (lt-ltb next end h)
@@ -34,6 +36,7 @@ pub record Placed {A : Type 0} (read : ℕ → List ℕ → Read A) (s : List �
   pub within : l .next ≤ length s
 
 module _ {A : Type 0} (read : ℕ → List ℕ → Read A) (s : List ℕ) (at : ℕ) (h : at ≤ length s) where
+  -- the line ends within the sheet
   inside : at + length (lineAt at s) ≤ length s
   inside = omega (arith, up-to-within 10 (drop at s), length-drop at s)
 
@@ -62,9 +65,11 @@ module _ {A : Type 0} (read : ℕ → List ℕ → Read A) (s : List ℕ) (at : 
     line-ended e g =
         let y = part-value f (read at (lineAt at s)) (is-read ∙ e) in g ∙ ap₂ (endedBy (length s)) (y .2) (y .3) ∙ ended-by f (y .1)
 
+  -- a value is that of one line only
   same-line : {l m : Line A} → value l ≡ value m → Placed read s at l → Placed read s at m
   same-line {l} {m} e p = let q : l ≡ m = cc in subst (Placed read s at) q p
 
+  -- by what the text says
   placed-by : (x : Read A) → read at (lineAt at s) ≡ x → {l : Line A} → line read at (split 10 (drop at s)) ≡ value l → Placed read s at l
   placed-by (refused n p) e g = no-value (sym (line-refused read s at refl e inside) ∙ g)
   placed-by (value v) e g =
@@ -72,5 +77,6 @@ module _ {A : Type 0} (read : ℕ → List ℕ → Read A) (s : List ℕ) (at : 
       (λ i. no-value (sym (line-last read s at refl e (omega (arith, inside))) ∙ g))
       (λ i. same-line (sym (line-more read s at refl e i) ∙ g) (record { text = e; rest = refl; within = omega arith }))
 
+  -- a line that was read has its place
   pub line-placed : {l : Line A} → line read at (split 10 (drop at s)) ≡ value l → Placed read s at l
   line-placed g = placed-by (read at (lineAt at s)) refl g

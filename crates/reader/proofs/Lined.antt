@@ -40,6 +40,7 @@ pub record LinesDone (sheet offsets₀ offsets codes₀ codes : List ℕ) (at n 
   pub codes-front : take used codes ≡ allCodes done
   pub same : linesFrom (length codes₀) n at sheet ≡ after done (linesOf (min 4096 (length codes₀)) (n - i) used from (split 10 (drop from sheet)))
 
+-- no line has been read; the first offset is 0
 pub lined-start : (sheet offsets codes : List ℕ) (at n : ℕ) → at ≤ length sheet → n < min 257 (length offsets)
     → LinesDone sheet (set offsets 0 0) (set offsets 0 0) codes codes at n at 0 0
 unfolding offsetsFrom allCodes
@@ -65,20 +66,25 @@ module _ {sheet offsets₀ offsets codes₀ codes : List ℕ} {at n from used i 
   module _ (turn : i < n) {left : List ℕ} {r : Part}
       (a : (r ≡ lineBy (codesAfter used) (contextLine (length codes) used from sheet))
       × Stored (contextIn (length codes) used from (lineAt from sheet)) used codes left) where
+    -- the reading, by the codes as they were lent
     is-read : lineBy (codesAfter used) (contextLine (length codes₀) used from sheet) ≡ r
     is-read = sym (a .0 ∙ rw (W .codes-long))
 
+    -- a line is still owed
     one-left : n - i ≡ suc (n - (i + 1))
     one-left = omega arith
 
+    -- a refusal is that of all lines
     pub lined-refused : {c p : ℕ} → r ≡ part.Refused c p → {offs : List ℕ} → Held (linesFrom (length codes₀) n at sheet) (length sheet) offs left r
     unfolding linesOf after
     lined-refused e = rw e (held-refused (length sheet) (W .same ∙ rw (one-left, line-refused (codesAfter used) _ (is-read ∙ e))))
 
     module _ {v m : ℕ} (e : r ≡ part.Read v m) where
+      -- one context more
       one-read : (l : Line (List ℕ)) × (contextLine (length codes₀) used from sheet ≡ value l) × (v ≡ used + length (l .got)) × (m ≡ l .next)
       one-read = line-value (codesAfter used) _ (is-read ∙ e)
 
+      -- its line has its place
       placed : Placed (contextIn (length codes₀) used) sheet from (one-read .0)
       placed = line-placed _ sheet from (W .within) (one-read .1)
 
@@ -86,9 +92,11 @@ module _ {sheet offsets₀ offsets codes₀ codes : List ℕ} {at n from used i 
       as-stored : contextIn (length codes) used from (lineAt from sheet) ≡ value (one-read .0 .got)
       as-stored = rw (W .codes-long) (placed .text)
 
+      -- its codes have room
       fits : v ≤ min 4096 (length codes₀)
       fits = omega (arith, one-read .2, a .1 .room _ as-stored, W .codes-long)
 
+      -- it stands in the tables behind those done
       pub lined-next : length left ≡ length codes → LinesDone sheet offsets₀ (set offsets (i + 1) v) codes₀ left at n m v (i + 1)
       unfolding linesOf
       lined-next long =
@@ -111,13 +119,16 @@ module _ {sheet offsets₀ offsets codes₀ codes : List ℕ} {at n from used i 
           }
 
   module _ (all : n ≤ i) where
+    -- no line is owed
     none-left : n - i ≡ 0
     none-left = omega arith
 
+    -- 9 where something stands behind the last line
     pub lined-more : from < length sheet → Held (linesFrom (length codes₀) n at sheet) (length sheet) offsets codes (part.Refused 9 from)
     unfolding linesOf after
     lined-more h = held-refused (length sheet) (W .same ∙ rw (none-left, nothing-more from (drop from sheet) (simp length-drop (omega arith))))
 
+    -- all is read where nothing does
     pub lined-end : length sheet ≤ from → Held (linesFrom (length codes₀) n at sheet) (length sheet) offsets codes (part.Read used from)
     unfolding linesOf after partBy
     lined-end h =

@@ -18,6 +18,7 @@ pub read-says : (κs : Lfts 3) (a : Dens κs read-kinds.ps) (u : resT read-kinds
     → read.Post κs a u x → Reads (a .0 .now) (a .1 .0 .now) (a .1 .1 .0 .now) u (x .1 .0 .now) (x .1 .1 .0 .now)
 read-says κs a u x p = p
 
+-- one answer, and the two tables with it
 pub read-only : OneAnswer 3 read-kinds.ps read-kinds.r read.Post {B = Reading × (List ℕ × List ℕ)} (λ κs u x. (u, (x .1 .0 .now, x .1 .1 .0 .now)))
 read-only κs a u v x y p q =
     let answer : u ≡ v = reads-answer p ∙ sym (reads-answer q) in

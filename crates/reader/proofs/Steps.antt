@@ -50,9 +50,11 @@ module _ (lo lc : ℕ) (s : List ℕ) {r : Part} (a : r ≡ lineBy itself (numbe
   k-refused e g = taken-refused (rw (line-refused itself _ (sym a ∙ e))) e 0 0 g
 
   module _ {k next : ℕ} (e : r ≡ part.Read k next) where
+    -- a number and the place behind it
     k-line : (l : Line ℕ) × (numberLine kKey 65536 0 s ≡ value l) × (k ≡ l .got) × (next ≡ l .next)
     k-line = line-value itself _ (sym a ∙ e)
 
+    -- the line has its place
     k-placed : Placed (behind kKey (numberOf 65536)) s 0 (k-line .0)
     k-placed = line-placed _ s 0 zero-le (k-line .1)
 
@@ -68,6 +70,7 @@ module _ (lo lc : ℕ) (s : List ℕ) {r : Part} (a : r ≡ lineBy itself (numbe
 -- r is the reading of the `contexts=` line, which begins at the place `at`
 module _ (lo lc k : ℕ) (s : List ℕ) (at : ℕ) {room : ℕ} (q : room ≡ min 257 lo)
     {r : Part} (a : r ≡ lineBy itself (numberLine contextsKey room at s)) where
+  -- the reading, by the offset words that were lent
   is-read : lineBy itself (numberLine contextsKey (min 257 lo) at s) ≡ r
   is-read = sym (a ∙ rw q)
 
@@ -78,9 +81,11 @@ module _ (lo lc k : ℕ) (s : List ℕ) (at : ℕ) {room : ℕ} (q : room ≡ mi
   contexts-refused e g = taken-refused (rw (line-refused itself _ (is-read ∙ e))) e k 0 g
 
   module _ (h : at ≤ length s) {n next : ℕ} (e : r ≡ part.Read n next) where
+    -- a number and the place behind it
     c-line : (l : Line ℕ) × (numberLine contextsKey (min 257 lo) at s ≡ value l) × (n ≡ l .got) × (next ≡ l .next)
     c-line = line-value itself _ (is-read ∙ e)
 
+    -- the line has its place
     c-placed : Placed (behind contextsKey (numberOf (min 257 lo))) s at (c-line .0)
     c-placed = line-placed _ s at h (c-line .1)
 

@@ -27,6 +27,7 @@ unfolding readingOf offsetsBy offsetsUsed
 offsets-count (value s) = omega (arith, offsets-length 0 (s .site))
 offsets-count (refused n p) = refl
 
+-- so many codes
 codes-count : (x : Read Sheet) → length (codesBy x) ≡ codesUsed (readingOf x)
 unfolding readingOf codesBy codesUsed
 codes-count (value s) = refl
@@ -34,15 +35,19 @@ codes-count (refused n p) = refl
 
 -- the sheet's data stand at the front of o and c
 module _ {x : Read Sheet} {o c : List ℕ} {r : Reading} (T : Taken x o c r) where
+  -- i offsets in use are all that were read
   all-offsets : {i : ℕ} → i ≡ offsetsUsed r → i ≡ length (offsetsBy x)
   all-offsets u = u ∙ rw (T .answer) (sym (offsets-count x))
 
+  -- and so are j codes
   all-codes : {j : ℕ} → j ≡ codesUsed r → j ≡ length (codesBy x)
   all-codes v = v ∙ rw (T .answer) (sym (codes-count x))
 
+  -- they fit their table
   pub offsets-fit : {i : ℕ} → i ≡ offsetsUsed r → i ≤ length o
   offsets-fit u = omega (arith, all-offsets u, front-fits _ _ _ (T .offsets-front) refl)
 
+  -- and the codes theirs
   pub codes-fit : {j : ℕ} → j ≡ codesUsed r → j ≤ length c
   codes-fit v = omega (arith, all-codes v, front-fits _ _ _ (T .codes-front) refl)
 
@@ -51,6 +56,7 @@ module _ {x : Read Sheet} {o c : List ℕ} {r : Reading} (T : Taken x o c r) whe
       → out ≡ padded n (offsetsBy x)
   offsets-zeroed u l z = refilled o (T .offsets-front) (all-offsets u) l z
 
+  -- the same of the codes
   pub codes-zeroed : {j n : ℕ} → j ≡ codesUsed r → length c ≡ n → {out : List ℕ} → out ≡ take j c ++ replicate (length c - j) 0
       → out ≡ padded n (codesBy x)
   codes-zeroed v l z = refilled c (T .codes-front) (all-codes v) l z
