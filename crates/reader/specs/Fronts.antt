@@ -9,7 +9,7 @@ use Rattle.site.specs.Tables.{offsetsOf, allCodes}
 use Rattle.reader.specs.declared.Part.{Part}
 use Rattle.reader.specs.declared.Reading.{Reading}
 use Rattle.reader.specs.declared.Reading.the-variants as reading
-use Rattle.reader.specs.Answers.{answerOf, offsetsBy, codesBy}
+use Rattle.reader.specs.Answers.{readingOf, offsetsBy, codesBy}
 use Rattle.reader.specs.Parts.{partBy, codesIn}
 
 -- the codes of a reading x stand behind the first `used` codes
@@ -25,7 +25,7 @@ pub record Held (x : Read (List (List ℕ))) (end : ℕ) (offsets codes : List �
 
 -- the sheet of a reading x: the answer, and both tables
 pub record Taken (x : Read Sheet) (offsets codes : List ℕ) (r : Reading) : Type 0 where
-  pub answer : r ≡ answerOf x
+  pub answer : r ≡ readingOf x
   pub offsets-front : take (length (offsetsBy x)) offsets ≡ offsetsBy x
   pub codes-front : take (length (codesBy x)) codes ≡ codesBy x
 

@@ -9,9 +9,9 @@ use super::number::number_in;
 ghost use mathlib.Core.Path.{_≡_};
 ghost use Prim.Native.Nat.{_+_, _≤_, _<_, _^_, min};
 ghost use lib.ListN.{length};
-ghost use Rattle.sheet.specs.Number.{numberOf};
 ghost use Rattle.sheet.specs.Reading.{roomAfter};
-ghost use Rattle.reader.specs.Parts.{partBy, lineBy, itself, codesAfter, lineAt, wordAt, wordsOf, contextIn, contextLine, linesFrom};
+ghost use Rattle.reader.specs.Parts.{wordsLent, partBy, lineBy, itself, codesAfter, lineAt, wordEnd};
+ghost use Rattle.reader.specs.Parts.{codeFrom, wordsOf, contextIn, contextLine, linesFrom};
 ghost use Rattle.reader.specs.Fronts.{Stored, Held};
 
 // Room for any number while there is room for a code, and then for none.
@@ -29,7 +29,7 @@ fn room_after(lent: usize, used: usize) -> usize
 fn code_from(l: &[u8], at: usize, from: usize, lent: usize, used: usize) -> Part
     requires { ⌜ at + length (now l) < 2 ^ 64 ⌝ }
     requires { ⌜ from ≤ length (now l) ⌝ }
-    ensures { λ r. ⌜ r ≡ partBy itself (at + from + length (wordAt from (now (l .entry)))) (numberOf (roomAfter (min 4096 lent) used) (at + from) (wordAt from (now (l .entry)))) ⌝ }
+    ensures { λ r. ⌜ r ≡ partBy itself (wordEnd at from (now (l .entry))) (codeFrom lent used at from (now (l .entry))) ⌝ }
 {
     let w = piece_from(l, from, 32);
     number_in(w, at + from, room_after(lent, used))
@@ -39,8 +39,8 @@ fn code_from(l: &[u8], at: usize, from: usize, lent: usize, used: usize) -> Part
 fn codes_in(l: &[u8], at: usize, codes: &mut [u16], used: usize) -> Part
     requires { ⌜ at + length (now l) < 2 ^ 64 ⌝ }
     requires { ⌜ used ≤ min 4096 (length (now codes)) ⌝ }
-    ensures { λ r. ⌜ r ≡ partBy (codesAfter used) (at + length (now (l .entry))) (wordsOf (length (now (codes .entry))) used at (now (l .entry))) ⌝ }
-    ensures { λ _. ⌜ Stored (wordsOf (length (now (codes .entry))) used at (now (l .entry))) used (now (codes .entry)) (now (codes .exit)) ⌝ }
+    ensures { λ r. ⌜ r ≡ partBy (codesAfter used) (at + length (now (l .entry))) (wordsOf (wordsLent codes) used at (now (l .entry))) ⌝ }
+    ensures { λ _. ⌜ Stored (wordsOf (wordsLent codes) used at (now (l .entry))) used (now (codes .entry)) (now (codes .exit)) ⌝ }
 {
     let mut from: usize = 0;
     let mut n = used;
@@ -65,8 +65,8 @@ fn codes_in(l: &[u8], at: usize, codes: &mut [u16], used: usize) -> Part
 fn context_in(l: &[u8], at: usize, codes: &mut [u16], used: usize) -> Part
     requires { ⌜ at + length (now l) < 2 ^ 64 ⌝ }
     requires { ⌜ used ≤ min 4096 (length (now codes)) ⌝ }
-    ensures { λ r. ⌜ r ≡ partBy (codesAfter used) (at + length (now (l .entry))) (contextIn (length (now (codes .entry))) used at (now (l .entry))) ⌝ }
-    ensures { λ _. ⌜ Stored (contextIn (length (now (codes .entry))) used at (now (l .entry))) used (now (codes .entry)) (now (codes .exit)) ⌝ }
+    ensures { λ r. ⌜ r ≡ partBy (codesAfter used) (at + length (now (l .entry))) (contextIn (wordsLent codes) used at (now (l .entry))) ⌝ }
+    ensures { λ _. ⌜ Stored (contextIn (wordsLent codes) used at (now (l .entry))) used (now (codes .entry)) (now (codes .exit)) ⌝ }
 {
     let m = matched(b"c=", l);
     if m < 2 {
@@ -88,12 +88,15 @@ fn context_in(l: &[u8], at: usize, codes: &mut [u16], used: usize) -> Part
 fn context_line_from(sheet: &[u8], at: usize, codes: &mut [u16], used: usize) -> Part
     requires { ⌜ at ≤ length (now sheet) ⌝ }
     requires { ⌜ used ≤ min 4096 (length (now codes)) ⌝ }
-    ensures { λ r. ⌜ r ≡ lineBy (codesAfter used) (contextLine (length (now (codes .entry))) used at (now (sheet .entry))) ⌝ }
-    ensures { λ _. ⌜ Stored (contextIn (length (now (codes .entry))) used at (lineAt at (now (sheet .entry)))) used (now (codes .entry)) (now (codes .exit)) ⌝ }
+    ensures { λ r. ⌜ r ≡ lineBy (codesAfter used) (contextLine (wordsLent codes) used at (now (sheet .entry))) ⌝ }
+    ensures { λ _. ⌜ Stored (contextIn (wordsLent codes) used at (lineAt at (now (sheet .entry)))) used (now (codes .entry)) (now (codes .exit)) ⌝ }
 {
     let l = line_from(sheet, at);
     let r = context_in(l, at, codes, used);
-    line_end(r, sheet.len())
+    let Part::Read { value, next } = r else {
+        return r;
+    };
+    line_end(value, next, sheet.len())
 }
 
 // Reads n `c=` lines from `at` on, and then the sheet's end.
@@ -106,7 +109,8 @@ pub(crate) fn context_lines(
 ) -> Part
     requires { ⌜ at ≤ length (now sheet) ⌝ }
     requires { ⌜ n < min 257 (length (now offsets)) ⌝ }
-    ensures { λ r. ⌜ Held (linesFrom (length (now (codes .entry))) n at (now (sheet .entry))) (length (now (sheet .entry))) (now (offsets .exit)) (now (codes .exit)) r ⌝ }
+    ensures { λ r. ⌜ Held (linesFrom (wordsLent codes) n at (now (sheet .entry))) (length (now (sheet .entry)))
+        (now (offsets .exit)) (now (codes .exit)) r ⌝ }
 {
     offsets[0] = 0;
     let mut used: u16 = 0;

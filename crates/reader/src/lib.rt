@@ -1,10 +1,11 @@
 // The reader of site sheets: it checks form and room, and nothing else.
 // A sheet is cut into lines and a line into words. Each is read from the left; the first refusal goes up as it is.
 ghost use mathlib.Core.Path.{_≡_};
+ghost use Prim.Native.Nat.{_≤_};
 ghost use lib.ListN.{length};
 ghost use Rattle.sheet.specs.Reading.{readSheet};
-ghost use Rattle.reader.specs.Parts.{lineBy, itself, kLine, contextsLine, contextLines, sheetBy};
-ghost use Rattle.reader.specs.Fronts.{Held, Taken, offsetsUsed, codesUsed};
+ghost use Rattle.reader.specs.Parts.{wordsLent, readRest, wholeBy};
+ghost use Rattle.reader.specs.Fronts.{Taken, offsetsUsed, codesUsed};
 ghost use Rattle.reader.specs.Calls.{Reads};
 
 mod cut; // the part of a sheet that a line fills, and of a line that a word fills
@@ -24,56 +25,42 @@ pub(crate) enum Part {
     Refused { number: u16, place: usize },
 }
 
-// Reads the `contexts=` line behind the `k=` line, with so many offset words lent.
-fn contexts_line(sheet: &[u8], k: Part, lent: usize) -> Part
-    requires { ⌜ k ≡ lineBy itself (kLine (now sheet)) ⌝ }
-    ensures { λ r. ⌜ r ≡ lineBy itself (contextsLine lent (now (sheet .entry))) ⌝ }
+// The sheet of k and so many contexts, once its `c=` lines are read; or the refusal of a part, which tells neither.
+fn whole(k: u16, contexts: u16, last: Part) -> Reading
+    ensures { λ r. ⌜ r ≡ wholeBy k contexts last ⌝ }
 {
-    let Part::Read { next, .. } = k else {
-        return k;
-    };
-    line::number_line_from(sheet, next, b"contexts=", words::smaller(257, lent))
-}
-
-// Reads the `c=` lines behind the `contexts=` line, and then the sheet's end.
-fn lines_behind(sheet: &[u8], contexts: Part, offsets: &mut [u16], codes: &mut [u16]) -> Part
-    requires { ⌜ contexts ≡ lineBy itself (contextsLine (length (now offsets)) (now sheet)) ⌝ }
-    ensures { λ r. ⌜ Held (contextLines (length (now (offsets .entry))) (length (now (codes .entry))) (now (sheet .entry))) (length (now (sheet .entry))) (now (offsets .exit)) (now (codes .exit)) r ⌝ }
-{
-    let Part::Read { value, next } = contexts else {
-        return contexts;
-    };
-    context::context_lines(sheet, next, value as usize, offsets, codes)
-}
-
-// The sheet of three readings, or the first refusal among them.
-fn whole(k: Part, contexts: Part, codes: Part) -> Reading
-    ensures { λ r. ⌜ r ≡ sheetBy k contexts codes ⌝ }
-{
-    match k {
-        Part::Refused { number, place } => Reading::Refused { number, place },
-        Part::Read { value: k, .. } => match contexts {
-            Part::Refused { number, place } => Reading::Refused { number, place },
-            Part::Read { value: n, .. } => match codes {
-                Part::Refused { number, place } => Reading::Refused { number, place },
-                Part::Read { value: c, .. } => Reading::Sheet {
-                    k,
-                    contexts: n,
-                    codes: c,
-                },
-            },
+    match last {
+        Part::Read { value, .. } => Reading::Sheet {
+            k,
+            contexts,
+            codes: value,
         },
+        Part::Refused { number, place } => Reading::Refused { number, place },
     }
+}
+
+// Reads the rest of the sheet, behind its `k=` line from `at` on, into the front of the tables.
+fn read_rest(sheet: &[u8], at: usize, k: u16, offsets: &mut [u16], codes: &mut [u16]) -> Reading
+    requires { ⌜ at ≤ length (now sheet) ⌝ }
+    ensures { λ r. ⌜ Taken (readRest (wordsLent offsets) (wordsLent codes) k at (now (sheet .entry))) (now (offsets .exit)) (now (codes .exit)) r ⌝ }
+{
+    let line = line::number_line_from(sheet, at, b"contexts=", words::smaller(257, offsets.len()));
+    let Part::Read { value: n, next } = line else {
+        return whole(k, 0, line);
+    };
+    let last = context::context_lines(sheet, next, n as usize, offsets, codes);
+    whole(k, n, last)
 }
 
 // Reads the sheet into the front of the tables.
 fn read_into(sheet: &[u8], offsets: &mut [u16], codes: &mut [u16]) -> Reading
-    ensures { λ r. ⌜ Taken (readSheet (length (now (offsets .entry))) (length (now (codes .entry))) (now (sheet .entry))) (now (offsets .exit)) (now (codes .exit)) r ⌝ }
+    ensures { λ r. ⌜ Taken (readSheet (wordsLent offsets) (wordsLent codes) (now (sheet .entry))) (now (offsets .exit)) (now (codes .exit)) r ⌝ }
 {
-    let k = line::number_line_from(sheet, 0, b"k=", 65536);
-    let contexts = contexts_line(sheet, k, offsets.len());
-    let rest = lines_behind(sheet, contexts, offsets, codes);
-    whole(k, contexts, rest)
+    let line = line::number_line_from(sheet, 0, b"k=", 65536);
+    let Part::Read { value: k, next } = line else {
+        return whole(0, 0, line);
+    };
+    read_rest(sheet, next, k, offsets, codes)
 }
 
 // How many offset words hold data.

@@ -41,13 +41,10 @@ fn number_behind(l: &[u8], at: usize, key: &[u8], room: usize) -> Part
     number_in(&l[m..], at + m, room)
 }
 
-// Steps over the byte 10 behind a line that was read: 9 at the sheet's end, if none stands there.
-pub(crate) fn line_end(line: Part, end: usize) -> Part
-    ensures { λ r. ⌜ r ≡ endedBy end line ⌝ }
+// Steps over the byte 10 at `next`, behind a line that was read: 9 there at the sheet's end, if none stands there.
+pub(crate) fn line_end(value: u16, next: usize, end: usize) -> Part
+    ensures { λ r. ⌜ r ≡ endedBy end value next ⌝ }
 {
-    let Part::Read { value, next } = line else {
-        return line;
-    };
     if next >= end {
         return Part::Refused {
             number: 9,
@@ -67,5 +64,8 @@ pub(crate) fn number_line_from(sheet: &[u8], at: usize, key: &[u8], room: usize)
 {
     let l = line_from(sheet, at);
     let r = number_behind(l, at, key, room);
-    line_end(r, sheet.len())
+    let Part::Read { value, next } = r else {
+        return r;
+    };
+    line_end(value, next, sheet.len())
 }

@@ -4,8 +4,7 @@ use super::Part;
 ghost use mathlib.Core.Path.{_≡_};
 ghost use Prim.Native.Nat.{_+_, _<_, _^_, min};
 ghost use lib.ListN.{length};
-ghost use Rattle.sheet.specs.Number.{digitRun, digitsIn, valueOf, numberOf};
-ghost use Rattle.sheet.proofs.Numbers.{AllDigits};
+ghost use Rattle.sheet.specs.Number.{AllDigits, digitRun, digitsIn, valueOf, numberOf};
 ghost use Rattle.reader.specs.Parts.{partBy, itself};
 
 // How many digits stand at the front.

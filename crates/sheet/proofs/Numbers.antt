@@ -2,17 +2,14 @@
 use mathlib.Core.Path.{_≡_, refl, sym, ap, _∙_}
 use mathlib.Core.Bool.{true, false}
 use mathlib.Core.List.{List, [], _∷_}
-use Prim.Native.Nat.{ℕ, zero, suc, _+_, _-_, _*_, _≤_, _<_, min, zero-le, suc-le-suc}
+use Prim.Native.Nat.{ℕ, zero, suc, _+_, _-_, _*_, _≤_, min, zero-le, suc-le-suc}
 use native.Mathlib.Nat.{le-refl, le-trans, not-suc-le-zero, le-of-suc-le-suc}
 use native.Mathlib.Omega.{arith}
 use borrow.Author.Tests.{le-leb, lt-leb, eq-eqb, ne-eqb}
-use lib.ListN.{length, getD, take, length-take}
+use lib.ListN.{length, take, length-take}
 use lib.Seq.{take-take, take-length}
 use Rattle.words.proofs.Split.{by-eq, by-le}
-use Rattle.sheet.specs.Number.{valueFrom, isDigit, digitRun, mostDigits, digitsIn}
-
-abbrev pub AllDigits : List ℕ → Type 0
-AllDigits bs = (i : ℕ) → i < length bs → (48 ≤ getD bs i 0) × (getD bs i 0 ≤ 57)
+use Rattle.sheet.specs.Number.{valueFrom, isDigit, AllDigits, digitRun, mostDigits, digitsIn}
 
 pub value-ge : (v : ℕ) (bs : List ℕ) → v ≤ valueFrom v bs
 unfolding valueFrom

@@ -1,4 +1,5 @@
--- What a refusal of a sheet means: 9 by where a well-formed sheet can go on, 10 and 11 by what stands before a number and what its digits say; and that the earliest place wins.
+-- What a refusal of a sheet means: 9 by where a well-formed sheet can go on, 10 and 11 by what stands before a number and what its
+-- digits say; and that the earliest place wins.
 use mathlib.Core.Path.{_≡_}
 use mathlib.Core.List.{List, [], _∷_, _++_}
 use Prim.Native.Nat.{ℕ, _+_, _≤_, _<_, min}
@@ -86,7 +87,8 @@ pub data NoRoom (offsets codes v : ℕ) : Which → Type 0 where
   -- contexts that need more offset words than were lent
   wide : (k : ℕ) → offsets < v + 1 → NoRoom offsets codes v (of-contexts k)
   -- the first code that exceeds 4,096 codes or the lent codes table
-  full : (k n : ℕ) (site : List (List ℕ)) (cs : List ℕ) → length (allCodes site) + length cs ≡ min 4096 codes → NoRoom offsets codes v (of-code k n site cs)
+  full : (k n : ℕ) (site : List (List ℕ)) (cs : List ℕ) → length (allCodes site) + length cs ≡ min 4096 codes
+      → NoRoom offsets codes v (of-code k n site cs)
 
 -- refusal 11 at p: there is no room for the number there, and 10 has no say
 pub record ElevenAt (offsets codes : ℕ) (s : List ℕ) (p : ℕ) : Type 0 where

@@ -1,3 +1,4 @@
+-- `reader::codes_used` meets its contract: each return is an arm of `codesUsed`.
 use Rattle.reader.specs.Fronts.{codesUsed}
 use borrow.Author.Needs.{needs}
 use Rattle.reader.proofs.codes_used.Statement.{statement}

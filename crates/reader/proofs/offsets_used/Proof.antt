@@ -1,3 +1,4 @@
+-- `reader::offsets_used` meets its contract: each return is an arm of `offsetsUsed`.
 use Rattle.reader.specs.Fronts.{offsetsUsed}
 use borrow.Author.Needs.{needs}
 use Rattle.reader.proofs.offsets_used.Statement.{statement}

@@ -1,3 +1,4 @@
+-- `reader::context::code_from` meets its contract: the word is cut, and read as a number with room while a code fits.
 use mathlib.Core.Path.{_∙_}
 use borrow.Author.Needs.{needs}
 use Rattle.reader.proofs.context.code_from.Statement.{statement}

@@ -1,3 +1,4 @@
+-- `reader::context::codes_in` meets its contract: `Worded` is its invariant.
 use native.Mathlib.Omega.{arith}
 use Prim.Native.Nat.{_-_}
 use lib.ListN.{length}
@@ -14,7 +15,10 @@ abbrev μ-loop : tie.MeasureT-loop
 
 -- of a word that was read
 fits : (c : tie.After-known-told Inv-loop μ-loop) → Fitting (c .before .before .before .before .loop .inv) (c .before .r .given .0 .1 .0)
-fits c = let r = c .before in let code-from = r .before .before in word-fits (code-from .before .loop .inv) (code-from .code-from .ensures) (r .r .given .1)
+fits c =
+    let r = c .before in
+    let code-from = r .before .before in
+    word-fits (code-from .before .loop .inv) (code-from .code-from .ensures) (r .r .given .1)
 
 loop-holds : tie.Need-loop-holds Inv-loop μ-loop
 loop-holds c = worded-start _ _ _ _ (c .before .before .pre .1)

@@ -1,3 +1,4 @@
+-- `reader::context::context_in` meets its contract: a broken key, an empty context, or the codes behind the key.
 use native.Mathlib.Omega.{arith}
 use lib.ListN.{length-take, length-drop}
 use Rattle.reader.proofs.Contexts.{context-broken, context-empty, context-codes}
@@ -10,21 +11,21 @@ returns c = context-broken _ _ (c .before .matched .ensures .0) _ _ (c .if1 .tak
 
 returns-2 : tie.Need-returns-2
 returns-2 c =
-    let if1 = c .before in
-    let matched = if1 .before in
+    let key = c .before in
+    let matched = key .before in
     let s = matched .before .before .before .before in
-    context-empty _ _ (matched .matched .ensures .0) _ _ (if1 .if1 .left) (c .if2 .taken) (s .pre .1)
+    context-empty _ _ (matched .matched .ensures .0) _ _ (key .if1 .left) (c .if2 .taken) (s .pre .1)
 
 codes-in-requires : tie.Need-codes-in-requires
 codes-in-requires c κs = (simp (length-take, length-drop) (omega arith), search needs)
 
 returns-3 : tie.Need-returns-3
 returns-3 c =
-    let codes-in = c .before .before in
-    let if2 = codes-in .before .before .before in
-    let if1 = if2 .before in
-    let matched = if1 .before in
-    context-codes _ _ (matched .matched .ensures .0) _ _ (if1 .if1 .left) (matched .matched .ensures .1) (if2 .if2 .left) (codes-in .codes-in .ensures .0) (codes-in .codes-in .ensures .1)
+    let codes = c .before .before in
+    let some = codes .before .before .before in
+    let key = some .before in
+    let m = key .before .matched .ensures in
+    context-codes _ _ (m .0) _ _ (key .if1 .left) (m .1) (some .if2 .left) (codes .codes-in .ensures)
 
 pub context-in-spec : {M : Type 1} → statement M
 context-in-spec =

@@ -1,3 +1,4 @@
+-- `reader::context::context_lines` meets its contract: `LinesDone` is its invariant.
 use Prim.Native.Nat.{_-_}
 use lib.ListN.{length-set}
 use mathlib.Core.Path.{_∙_}
@@ -12,6 +13,10 @@ Inv-loop sheet at n offsets₀ codes₀ used₀ from₀ i₀ offsets codes used 
 abbrev μ-loop : tie.MeasureT-loop
 μ-loop sheet at n offsets₀ codes₀ used₀ from₀ i₀ offsets codes used from i = n - i
 
+-- before a line is read: its turn of the loop
+abbrev turn : tie.After-context-line-from Inv-loop μ-loop → tie.In-loop Inv-loop μ-loop
+turn line = line .before .before
+
 loop-holds : tie.Need-loop-holds Inv-loop μ-loop
 loop-holds c =
     let s = c .before .before .before in
@@ -19,23 +24,21 @@ loop-holds c =
 
 same-length : tie.Need-same-length Inv-loop μ-loop
 same-length c =
-    let loop = c .before .before .before .before .before .before .before in
-    loop .loop .inv .offsets-long ∙ simp length-set
+    let line = c .before .before .before .before in
+    turn line .before .loop .inv .offsets-long ∙ simp length-set
 
 returns : tie.Need-returns Inv-loop μ-loop
 returns c =
-    let context-line-from = c .before .before .before .before in
-    let loop-test = context-line-from .before .before in
-    let loop = loop-test .before in
-    lined-refused (loop .loop .inv) (loop-test .loop-test .taken) (context-line-from .context-line-from .ensures .0) (context-line-from .context-line-from .ensures .1) (c .enum-told .given .1)
+    let line = c .before .before .before .before in
+    let t = turn line in
+    lined-refused (t .before .loop .inv) (t .loop-test .taken) (line .context-line-from .ensures) (c .enum-told .given .1)
 
 loop-again : tie.Need-loop-again Inv-loop μ-loop
 loop-again c =
     let r = c .before in
-    let context-line-from = r .before .before .before .before in
-    let loop-test = context-line-from .before .before in
-    let loop = loop-test .before in
-    lined-next (loop .loop .inv) (loop-test .loop-test .taken) (context-line-from .context-line-from .ensures .0) (context-line-from .context-line-from .ensures .1) (r .r .given .1) (context-line-from .context-line-from .kept .1 .1 .0)
+    let line = r .before .before .before .before .context-line-from in
+    let t = turn (r .before .before .before .before) in
+    lined-next (t .before .loop .inv) (t .loop-test .taken) (line .ensures) (r .r .given .1) (line .kept .1 .1 .0)
 
 same-length-3 : tie.Need-same-length-3 Inv-loop μ-loop
 same-length-3 c = c .before .before .loop .inv .offsets-long ∙ simp length-set

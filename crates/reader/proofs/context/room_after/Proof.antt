@@ -1,3 +1,4 @@
+-- `reader::context::room_after` meets its contract: each return is an arm of `roomAfter`.
 use Rattle.reader.proofs.Worded.{room-some, room-none}
 use borrow.Author.Needs.{needs}
 use Rattle.reader.proofs.context.room_after.Statement.{statement}

@@ -1,3 +1,4 @@
+-- `reader::cut::piece_from` meets its contract: `Sought` is its invariant.
 use Prim.Native.Nat.{_-_}
 use lib.ListN.{length}
 use Rattle.reader.proofs.Cuts.{Sought, sought-start, sought-next, cut-within, cut-here, cut-end}

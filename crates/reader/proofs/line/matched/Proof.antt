@@ -1,3 +1,4 @@
+-- `reader::line::matched` meets its contract: `Matched` is its invariant.
 use Rattle.reader.proofs.Keys.{Matched, matched-start, matched-next, matched-other, matched-short, matched-end}
 use lib.ListN.{length}
 use Prim.Native.Nat.{_-_}

@@ -1,3 +1,4 @@
+-- `reader::line::number_behind` meets its contract: a broken key, or the number behind it.
 use native.Mathlib.Omega.{arith}
 use lib.ListN.{length-take, length-drop}
 use Rattle.reader.proofs.Keys.{number-broken, number-follows}

@@ -1,3 +1,4 @@
+-- `reader::number::digit_run` meets its contract: `Run` is its invariant.
 use Rattle.reader.proofs.Digits.{Run, run-start, run-next, run-below, run-above, run-end}
 use lib.ListN.{length}
 use Prim.Native.Nat.{_-_}

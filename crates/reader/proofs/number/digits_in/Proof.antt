@@ -1,3 +1,4 @@
+-- `reader::number::digits_in` meets its contract: no byte, a 0 alone, or the run of digits.
 use Rattle.reader.proofs.Digits.{digits-none, digits-zero, digits-all}
 use borrow.Author.Needs.{needs}
 use Rattle.reader.proofs.number.digits_in.Statement.{statement}

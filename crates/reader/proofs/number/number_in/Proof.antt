@@ -1,3 +1,4 @@
+-- `reader::number::number_in` meets its contract: each return is an arm of `numberOf`.
 use Rattle.reader.proofs.Judged.{front-taken, no-digit, front-digits, too-large, no-room, bad-behind, number-read}
 use borrow.Author.Needs.{needs}
 use Rattle.reader.proofs.number.number_in.Statement.{statement}

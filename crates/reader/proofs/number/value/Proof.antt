@@ -1,3 +1,4 @@
+-- `reader::number::value` meets its contract: `Valued` is its invariant.
 use Rattle.reader.proofs.Digits.{Valued, valued-start, valued-next, valued-end}
 use native.Mathlib.Omega.{arith}
 use lib.ListN.{length}
