@@ -10,10 +10,9 @@ use borrow.Author.Tests.{lt-ltb, le-ltb}
 use Rattle.site.specs.Tables.{siteOf}
 use Rattle.words.proofs.Split.{by-le}
 use Rattle.tables.specs.Checks.{tablesCheck}
-use Rattle.tables.specs.Refusals.{Breaks, wrong-k, wrong-sizes, wrong-offset, large-code, code-falls}
 use Rattle.tables.specs.declared.Check.{Check}
 use Rattle.tables.specs.declared.Check.the-variants as check
-use Rattle.tables.proofs.Refusals.{refused-exactly, fine-exactly}
+use Rattle.tables.proofs.Refusals.{refused-exactly, fine-exactly, breaks-number}
 use Rattle.entries.specs.Entries.{width}
 use Rattle.search.specs.Outcome.{Tells, zeros, threeCounts, trailNeed}
 use Rattle.search.proofs.Answers.{tells-refused}
@@ -71,16 +70,9 @@ module _ (k : ℕ) (os cs : List ℕ) (list work : ℕ) where
 
 -- ---- the numbers
 
-breaks-few : (k : ℕ) (os cs : List ℕ) (n p : ℕ) → Breaks k os cs n p → n ≤ 5
-breaks-few k os cs n p (wrong-k w) = omega arith
-breaks-few k os cs n p (wrong-sizes w) = omega arith
-breaks-few k os cs n p (wrong-offset h w) = omega arith
-breaks-few k os cs n p (large-code h w) = omega arith
-breaks-few k os cs n p (code-falls h c w) = omega arith
-
 -- 8 is for the trail alone
 eight-trail : (k : ℕ) (os cs : List ℕ) (list work trail n p : ℕ) → Cause k os cs list work trail n p → n ≡ 8 → trail < trailNeed k (siteOf os cs)
-eight-trail k os cs list work trail n p (tables b) e = absurd (omega (arith, breaks-few k os cs n p (b .here)))
+eight-trail k os cs list work trail n p (tables b) e = absurd (omega (arith, breaks-number k os cs n p (b .here) .1))
 eight-trail k os cs list work trail n p (list-room a h) e = absurd (omega arith)
 eight-trail k os cs list work trail n p (work-room a h w) e = absurd (omega arith)
 eight-trail k os cs list work trail n p (trail-room a h w t) e = t

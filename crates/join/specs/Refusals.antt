@@ -3,14 +3,10 @@ use mathlib.Core.List.{List}
 use Prim.Native.Nat.{ℕ, _*_, _≤_, _<_}
 use lib.ListN.{length}
 use Rattle.site.specs.Tables.{siteOf}
-use Rattle.tables.specs.Refusals.{Breaks, Broken}
+use Rattle.tables.specs.Refusals.{Broken, Unbroken}
 use Rattle.entries.specs.Entries.{width}
 use Rattle.search.specs.Outcome.{trailNeed}
 use Rattle.join.specs.Join.{JoinCall}
-
--- no rule of k and of the tables is broken
-abbrev pub Unbroken : ℕ → List ℕ → List ℕ → Type 0
-Unbroken k offsets codes = (n p : ℕ) → Breaks k offsets codes n p → ⊥
 
 -- the cause of a refusal, where list, work and trail are as many words; each is looked at after those above it
 pub data Cause (k : ℕ) (offsets codes : List ℕ) (list work trail : ℕ) : ℕ → ℕ → Type 0 where

@@ -4,7 +4,7 @@ use mathlib.Core.Bool.{_||_}
 use mathlib.Core.List.{List}
 use mathlib.Core.Logic.{inl, ⊎-elim, _↔_}
 use mathlib.Core.Path.{_≡_, refl, sym, subst, _∙_}
-use Prim.Native.Nat.{ℕ, _<_, zero-le}
+use Prim.Native.Nat.{ℕ, _<_, zero-le, _≤_}
 use native.Mathlib.Omega.{arith}
 use lib.Dec.{eqb, ltb}
 use lib.ListN.{length, getD}
@@ -13,7 +13,7 @@ use Rattle.words.proofs.Split.{by-eq, by-le}
 use Rattle.site.specs.Tables.{siteOf}
 use Rattle.tables.specs.Rules.{offsetRule, codeRule}
 use Rattle.tables.specs.Checks.{_andThen_, sizesCheck, offsetsCheck, codesCheck, tablesCheck}
-use Rattle.tables.specs.Refusals.{WrongK, WrongSizes, WrongOffset, NotAbove, Breaks, wrong-k, wrong-sizes, wrong-offset, large-code, code-falls, Broken, Stands}
+use Rattle.tables.specs.Refusals.{WrongK, WrongSizes, WrongOffset, NotAbove, Breaks, wrong-k, wrong-sizes, wrong-offset, large-code, code-falls, Broken, Stands, Unbroken}
 use Rattle.tables.specs.declared.Check.{Check}
 use Rattle.tables.specs.declared.Check.the-variants.{Fine, Refused}
 use Rattle.tables.proofs.Meaning.{FirstBreak, fine-means, refused-means}
@@ -23,10 +23,18 @@ use Rattle.tables.proofs.Checks.{accepted}
 use Rattle.tables.proofs.Sound.{contexts-are, sound-rises}
 use Rattle.tables.proofs.Cuts.{tables-back}
 
+-- the numbers of the rules are 1 to 5
+pub breaks-number : (k : ℕ) (os cs : List ℕ) (n p : ℕ) → Breaks k os cs n p → (0 < n) × (n ≤ 5)
+breaks-number k os cs n p (wrong-k w) = (omega arith, omega arith)
+breaks-number k os cs n p (wrong-sizes w) = (omega arith, omega arith)
+breaks-number k os cs n p (wrong-offset h w) = (omega arith, omega arith)
+breaks-number k os cs n p (large-code h w) = (omega arith, omega arith)
+breaks-number k os cs n p (code-falls h c w) = (omega arith, omega arith)
+
 module _ (k : ℕ) (os cs : List ℕ) where
   -- what a check's answer says
   abbrev Said : Check → Type 0
-  Said Fine = (n p : ℕ) → Breaks k os cs n p → ⊥
+  Said Fine = Unbroken k os cs
   Said (Refused n p) = Broken k os cs n p
 
   -- ---- 1 and 2
@@ -121,13 +129,13 @@ module _ (k : ℕ) (os cs : List ℕ) where
                   (λ q h e c x. same-turn 5 q 5 i refl e (λ l. fall-refused os cs some fine q c x (earlier-kept q l)) (λ d l. omega arith));
             }
 
-        fine-said : codesCheck os cs ≡ Fine → (n p : ℕ) → Breaks k os cs n p → ⊥
+        fine-said : codesCheck os cs ≡ Fine → Unbroken k os cs
         fine-said r n p b = none n p b
           where
             rule-kept : (q : ℕ) → q < length cs → codeRule os cs q ≡ 0
             rule-kept q h = fine-means (codeRule os cs) 0 (length cs) zero-le r q zero-le h
 
-            none : (n p : ℕ) → Breaks k os cs n p → ⊥
+            none : Unbroken k os cs
             none n p (wrong-k w) = kept w
             none n p (wrong-sizes w) = sized w
             none n p (wrong-offset h w) = offsets-kept p h w
@@ -161,10 +169,10 @@ module _ (k : ℕ) (os cs : List ℕ) where
       same b (Refused m q) s = one-first m q n p (λ x. absurd (b .first m q (s .here) x)) (λ x. absurd (s .first n p (b .here) x)) (λ d e i. Refused (d i) (e i))
 
   -- nothing is refused exactly if no rule is broken
-  pub fine-exactly : (tablesCheck k os cs ≡ Fine) ↔ ((n p : ℕ) → Breaks k os cs n p → ⊥)
+  pub fine-exactly : (tablesCheck k os cs ≡ Fine) ↔ Unbroken k os cs
   fine-exactly = (λ e. subst Said e said, λ none. same none (tablesCheck k os cs) said)
     where
-      same : ((n p : ℕ) → Breaks k os cs n p → ⊥) → (c : Check) → Said c → c ≡ Fine
+      same : Unbroken k os cs → (c : Check) → Said c → c ≡ Fine
       same none Fine s = refl
       same none (Refused n p) s = absurd (none n p (s .here))
 

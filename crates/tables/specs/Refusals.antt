@@ -49,6 +49,10 @@ pub record Broken (k : ℕ) (os cs : List ℕ) (n p : ℕ) : Type 0 where
   pub here : Breaks k os cs n p
   pub first : (m q : ℕ) → Breaks k os cs m q → Earlier m q n p → ⊥
 
+-- not refused: no rule is broken
+abbrev pub Unbroken : ℕ → List ℕ → List ℕ → Type 0
+Unbroken k os cs = (n p : ℕ) → Breaks k os cs n p → ⊥
+
 -- k and the tables of a site: at most 256 contexts, each rising, and at most 4,096 codes, none above 4,095
 pub record Stands (k : ℕ) (os cs : List ℕ) (site : Site) : Type 0 where
   pub asked : 1 ≤ k

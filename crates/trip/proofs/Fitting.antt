@@ -1,4 +1,4 @@
--- Tables that pass 1 to 5 are those of their site, and their sheet fits the reader's words and room.
+-- Tables that pass 1 to 5 fit a sheet, and the reader's words and room.
 use mathlib.Core.Path.{_≡_, ap, subst, _∙_}
 use mathlib.Core.List.{List, [], _∷_}
 use Prim.Native.Nat.{ℕ, zero, suc, _≤_, _<_, zero-le}
@@ -13,15 +13,7 @@ use Rattle.tables.specs.Sound.{Sound}
 use Rattle.tables.proofs.Meaning.{fine-means}
 use Rattle.tables.proofs.Sound.{contexts-are, offset-first}
 use Rattle.tables.proofs.Checks.{Accepted}
-use Rattle.tables.proofs.Cuts.{Cut, sound-cut, offsets-back, codes-back}
-
-back : (os cs : List ℕ) → Cut os (length cs) → getD os 0 0 ≡ 0 → (offsetsOf (siteOf os cs) ≡ os) × (allCodes (siteOf os cs) ≡ cs)
-back [] cs c z = absurd c
-back (a ∷ os) cs c z = let e : a ≡ 0 = z in (subst (λ (x : ℕ). offsetsFrom x (siteOf (a ∷ os) cs) ≡ a ∷ os) e (offsets-back a os cs c), codes-back a os cs c ∙ ap (λ (x : ℕ). drop x cs) e)
-
--- the tables of their site
-pub site-is : {os cs : List ℕ} → Sound os cs → (offsetsOf (siteOf os cs) ≡ os) × (allCodes (siteOf os cs) ≡ cs)
-site-is {os} {cs} S = back os cs (sound-cut S) (offset-first S)
+use Rattle.tables.proofs.Cuts.{tables-back}
 
 -- the codes fit their words
 words-of : (cs : List ℕ) → ((i : ℕ) → i < length cs → getD cs i 0 ≤ 65535) → Words cs
@@ -58,5 +50,5 @@ written-fits {k} {os} {cs} A lo lc h g =
       k-word = omega (arith, A .most);
       words = site-words os cs (words-of cs (code-small S));
       contexts = omega (arith, contexts-are S, S .few);
-      room = rw (site-is S .1) (omega (arith, S .short));
+      room = rw (tables-back S .1) (omega (arith, S .short));
     }

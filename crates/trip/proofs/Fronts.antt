@@ -12,12 +12,11 @@ use Rattle.sheet.specs.Text.{sheetText}
 use Rattle.sheet.specs.Reading.{Sheet, readSheet}
 use Rattle.sheet.proofs.Tables.{offsets-length}
 use Rattle.sheet.proofs.WritesBack.{writes-back}
-use Rattle.tables.proofs.Cuts.{site-back}
+use Rattle.tables.proofs.Cuts.{site-back, tables-back}
 use Rattle.tables.specs.Sound.{Sound}
 use Rattle.reader.specs.declared.Reading.the-variants as reading
-use Rattle.reader.specs.Answers.{answerOf, offsetsBy, codesBy}
+use Rattle.reader.specs.Answers.{readingOf, offsetsBy, codesBy}
 use Rattle.writer.proofs.Sheets.{one-less}
-use Rattle.trip.proofs.Fitting.{site-is}
 
 -- words with zeros behind them begin with the words
 pub front-of : (n : ℕ) (ws : List ℕ) → take (length ws) (padded n ws) ≡ ws
@@ -25,9 +24,9 @@ unfolding padded
 front-of n ws = take-append-seam ws _
 
 -- an accepted sheet is one that was read, with its three numbers
-pub sheet-read : (x : Read Sheet) {k n m : ℕ} → reading.Sheet k n m ≡ answerOf x
+pub sheet-read : (x : Read Sheet) {k n m : ℕ} → reading.Sheet k n m ≡ readingOf x
     → (s : Sheet) × (x ≡ value s) × (s .k ≡ k) × (length (s .site) ≡ n) × (length (allCodes (s .site)) ≡ m)
-unfolding answerOf
+unfolding readingOf
 sheet-read (value s) e = (s, refl, sym (cc), sym (cc), sym (cc))
 sheet-read (refused p q) e = let z : _≡_ {A = ℕ} 0 1 = cc in absurd (omega arith)
 
@@ -46,8 +45,8 @@ text-of lo lc sheet s o c e f = rw (f .0, f .1, site-back [] (s .site)) (writes-
 
 -- the other way: where the site of sound tables is read, the tables are what they were
 pub tables-again : {k : ℕ} {os cs : List ℕ} → Sound os cs → (x : Read Sheet) → x ≡ value (record { k = k; site = siteOf os cs })
-    → (answerOf x ≡ reading.Sheet k (length os - 1) (length cs)) × (offsetsBy x ≡ os) × (codesBy x ≡ cs)
-unfolding answerOf offsetsBy codesBy
+    → (readingOf x ≡ reading.Sheet k (length os - 1) (length cs)) × (offsetsBy x ≡ os) × (codesBy x ≡ cs)
+unfolding readingOf offsetsBy codesBy
 tables-again {k} {os} {cs} S x e =
     let n = sym (one-less S) in
-    rw e (λ i. reading.Sheet k (n i) (length (site-is S .1 i)), site-is S .0, site-is S .1)
+    rw e (λ i. reading.Sheet k (n i) (length (tables-back S .1 i)), tables-back S .0, tables-back S .1)

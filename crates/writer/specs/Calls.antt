@@ -1,4 +1,4 @@
--- The call's contract as a record over its inputs and outputs.
+-- The call's contract as a record over its inputs and outputs. Its field `answer` says which case the answer is, since both have one value.
 use mathlib.Core.Path.{_≡_}
 use mathlib.Core.List.{List}
 use Prim.Native.Nat.{ℕ}

@@ -1,0 +1,2 @@
+-- what the reader and the writer owe: their refusals
+pub mod Sheets
