@@ -60,19 +60,18 @@ again p ν γ = record { lft = ν ∷ []; share = fullShare; ref = record { ptr 
 abbrev pub Kept : Passed → ℕ → GName → Fml
 Kept t ν γ = keptF u8 (t .lft) (t .share) (ν ∷ []) (t .ref .name) γ (t .ref .now) (t .ref .ptr .0) (t .ref .ptr .1)
 
-module _ {M : Type 1} (𝓤 : URA M) (H : Heap 𝓤) (A : Atoms 𝓤) (W : Given 𝓤 H A) where
-  module _ (t : Passed) (s : Val) (is : s ∷ [] ≡ slice-vals (t .ref)) (ν : ℕ) where
-    -- the text is lent again
-    pub text-lent : ent 𝓤 (⋆ 𝓤 H A (‵ (Text t s) ∷ ‵ (token t) ∷ [])) (mean 𝓤 H A (later (some (λ (γ : GName). ‵ (Text (again t ν γ) s) ⊛ ‵ (Kept t ν γ)))))
-    text-lent =
-        qed W (‵ (Text t s) ∷ ‵ (token t) ∷ []) ∵ updating ! $ fsplit ! $ fsplit ! $ feqL ! (λ e. fjoin ! $
-        use2 W (later (some (λ (γ : GName). ‵ (Owned.MutSlice erased (ν ∷ []) u8 .own (again t ν γ .ref)) ⊛ ‵ (Kept t ν γ)))) (sl-relend 𝓤 H A W u8 (t .lft) (t .share) (ν ∷ []) (t .ref .ptr .0) (t .ref .ptr .1) (t .ref .name) (t .ref .now)) $
-        await ! tt $ pick ! (λ γ. split ! $ fsplit ! $ feqI ! (List Val) (s ∷ []) (slice-vals (t .ref)) is $ fjoin ! $ fjoin ! $ at-once ! $
-        show ! (λ (δ : GName). mean 𝓤 H A (‵ (Text (again t ν δ) s) ⊛ ‵ (Kept t ν δ))) γ $ done !))
+module _ {M : Type 1} (𝓤 : URA M) (H : Heap 𝓤) (A : Atoms 𝓤) (W : Given 𝓤 H A) (t : Passed) (s : Val) (is : s ∷ [] ≡ slice-vals (t .ref)) (ν : ℕ) where
+  -- the text is lent again
+  pub text-lent : ent 𝓤 (⋆ 𝓤 H A (‵ (Text t s) ∷ ‵ (token t) ∷ [])) (mean 𝓤 H A (later (some (λ (γ : GName). ‵ (Text (again t ν γ) s) ⊛ ‵ (Kept t ν γ)))))
+  text-lent =
+      qed W (‵ (Text t s) ∷ ‵ (token t) ∷ []) ∵ updating ! $ fsplit ! $ fsplit ! $ feqL ! (λ e. fjoin ! $
+      use2 W (later (some (λ (γ : GName). ‵ (Owned.MutSlice erased (ν ∷ []) u8 .own (again t ν γ .ref)) ⊛ ‵ (Kept t ν γ)))) (sl-relend 𝓤 H A W u8 (t .lft) (t .share) (ν ∷ []) (t .ref .ptr .0) (t .ref .ptr .1) (t .ref .name) (t .ref .now)) $
+      await ! tt $ pick ! (λ γ. split ! $ fsplit ! $ feqI ! (List Val) (s ∷ []) (slice-vals (t .ref)) is $ fjoin ! $ fjoin ! $ at-once ! $
+      show ! (λ (δ : GName). mean 𝓤 H A (‵ (Text (again t ν δ) s) ⊛ ‵ (Kept t ν δ))) γ $ done !))
 
-    -- and comes back with the bytes zs
-    pub text-back : (γ : GName) (zs : List ℕ) → ent 𝓤 (⋆ 𝓤 H A (raw (A .dead (ν ∷ [])) ∷ ‵ (Kept t ν γ) ∷ ‵ (finally u8 γ zs) ∷ [])) (mean 𝓤 H A (later (‵ (Text (holding t zs) s) ⊛ ‵ (token t))))
-    text-back γ zs =
-        qed W (raw (A .dead (ν ∷ [])) ∷ ‵ (Kept t ν γ) ∷ ‵ (finally u8 γ zs) ∷ []) ∵ updating ! $
-        use3 W (later (given (length zs ≡ length (t .ref .now)) (‵ (Owned.MutSlice erased (t .lft) u8 .own (holding t zs .ref)) ⊛ ‵ (token t)))) (sl-relent-backˡ 𝓤 H A W u8 (t .lft) (t .share) (ν ∷ []) (t .ref .ptr .0) (t .ref .ptr .1) (t .ref .name) γ (t .ref .now) zs) $
-        await ! tt $ learn ! (λ l. split ! $ fsplit ! $ feqI ! (List Val) (s ∷ []) (slice-vals (holding t zs .ref)) (is ∙ ap (λ (m : ℕ). sliceVal (t .ref .ptr) m ∷ []) (sym l)) $ fjoin ! $ fjoin ! $ at-once ! $ done !)
+  -- and comes back with the bytes zs
+  pub text-back : (γ : GName) (zs : List ℕ) → ent 𝓤 (⋆ 𝓤 H A (raw (A .dead (ν ∷ [])) ∷ ‵ (Kept t ν γ) ∷ ‵ (finally u8 γ zs) ∷ [])) (mean 𝓤 H A (later (‵ (Text (holding t zs) s) ⊛ ‵ (token t))))
+  text-back γ zs =
+      qed W (raw (A .dead (ν ∷ [])) ∷ ‵ (Kept t ν γ) ∷ ‵ (finally u8 γ zs) ∷ []) ∵ updating ! $
+      use3 W (later (given (length zs ≡ length (t .ref .now)) (‵ (Owned.MutSlice erased (t .lft) u8 .own (holding t zs .ref)) ⊛ ‵ (token t)))) (sl-relent-backˡ 𝓤 H A W u8 (t .lft) (t .share) (ν ∷ []) (t .ref .ptr .0) (t .ref .ptr .1) (t .ref .name) γ (t .ref .now) zs) $
+      await ! tt $ learn ! (λ l. split ! $ fsplit ! $ feqI ! (List Val) (s ∷ []) (slice-vals (holding t zs .ref)) (is ∙ ap (λ (m : ℕ). sliceVal (t .ref .ptr) m ∷ []) (sym l)) $ fjoin ! $ fjoin ! $ at-once ! $ done !)

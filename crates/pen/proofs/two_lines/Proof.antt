@@ -55,27 +55,32 @@ use Rattle.pen.proofs.two_lines as two-lines
 use Rattle.pen.proofs.two_lines.Statement as stated
 use Rattle.pen.proofs.two_lines.Code as code
 
+-- at exit the text is still had, and nothing else
 abbrev stayed : Stays (two-lines.ended .signature .params) (two-lines.ended .kept)
 stayed = (stay-slice (0 ∷ []) tt (plain (λ _. u8)), (stay-dropped (plain (λ _. R)) yes, (stay-dropped (shrSliceOf (1 ∷ []) tt (plain (λ _. u8))) yes, (stay-dropped (shrSliceOf (2 ∷ []) tt (plain (λ _. u16))) yes, (stay-dropped (shrSliceOf (3 ∷ []) tt (plain (λ _. u8))) yes, (stay-dropped (shrSliceOf (4 ∷ []) tt (plain (λ _. u16))) yes, tt))))))
 
--- the answer's row and its machine value
+-- the answer's row
 abbrev B : RattleType
 B = Tw.the-row
 
+-- its machine value
 abbrev both : Twice → Val
 both r = vstruct (vcons (vint w64 (r .between)) (vcons (mach (r .pen)) vnil))
 
 module _ {M : Type 1} (𝓤 : URA M) (H : Heap 𝓤) (A : Atoms 𝓤) (W : Given 𝓤 H A) (at-mem : Memory → SProp 𝓤) (run : Routine → Fun 𝓤) (t : Passed) (h : Pen) (k n k′ n′ : Passed) (few : length (t .ref .now) < 2 ^ 64) (is-pen : Is R h (mach h ∷ [])) (within : Fits h (t .ref .now)) where
-  -- the arguments and their machine values
+  -- the arguments
   abbrev a : RefT (List ℕ) × (Pen × (RefT (List ℕ) × (RefT (List ℕ) × (RefT (List ℕ) × (RefT (List ℕ) × Unit {0})))))
   a = (t .ref, (h, (k .ref, (n .ref, (k′ .ref, (n′ .ref, tt))))))
 
+  -- their machine values
   abbrev vals : List Val × (List Val × (List Val × (List Val × (List Val × (List Val × Unit {0})))))
   vals = (slot t ∷ [], (mach h ∷ [], (slot k ∷ [], (slot n ∷ [], (slot k′ ∷ [], (slot n′ ∷ [], tt))))))
 
+  -- what the triple binds outside
   abbrev bound : walkOf 𝓤 H A two-lines.ended stayed (two-lines.clauses 𝓤 H A at-mem run) .Ghost
   bound = (((t .lft, (k .lft, (n .lft, (k′ .lft, (n′ .lft, tt))))), (t .share, (k .share, (n .share, (k′ .share, (n′ .share, tt))))), tt, a, vals), tt)
 
+  -- what is to be shown at the return
   abbrev Post : Val → SProp 𝓤
   Post = walkOf 𝓤 H A two-lines.ended stayed (two-lines.clauses 𝓤 H A at-mem run) .post bound
 
