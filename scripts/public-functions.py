@@ -156,9 +156,13 @@ def only_problems(crate, fn, statement, modules, parameters, has_result):
     if not posts or not all(is_contract(crate, modules.get(p, p), fn) for p in posts):
         return [f"`{fn.replace('_', '-')}-only` does not name the `Post` of {fn}"]
     view = re.search(r"\bOneAnswer\b.*\(\s*λ\s+(\S+)\s+(\S+)\s+(\S+)\s*\.(.*)\)\s*$", statement, re.S)
-    if view is None:
+    if view is not None:
+        _, result, exit_, seen = view.groups()
+    elif f"{fn}.Reads" not in (modules.get(p) for p in posts):
+        # a contract that the kit does not read has no `OneAnswer`: it is written out, for u and x, v and y
+        result, exit_, seen = "u", "x", statement.rpartition("→")[2]
+    else:
         return [f"`{fn.replace('_', '-')}-only` is no `OneAnswer` with a view"]
-    _, result, exit_, seen = view.groups()
     problems = []
     if has_result and not re.search(rf"(?<![\w.]){result}(?![\w])", seen):
         problems.append("the view of its `-only` theorem does not see the result")

@@ -64,7 +64,7 @@ pub read-written : (κs κs′ : Lfts 3) (a : Dens κs read-kinds.ps) (b : Dens 
     → WritingTells v 0 (length (a .0 .now) ∷ []) × (y .1 .1 .1 .0 .now ≡ padded (length (b .1 .1 .1 .0 .now)) (a .0 .now))
 read-written κs κs′ a b u v x y p q n m told os cs fine room =
     let W : Writes (b .0) (take (n + 1) (x .1 .0 .now)) (take m (x .1 .1 .0 .now)) (b .1 .1 .1 .0 .now) v (y .1 .1 .1 .0 .now) =
-        rw (os, cs) (write-says κs′ b v y q) in
+    rw (os, cs) (write-says κs′ b v y q) in
     sheet-back (read-says κs a u x p) told (rw (os, cs) fine) W room
 
 -- Tables that are written, telling a text of n bytes, are read back the same where the lent tables have room: lent to `read` is that text.
@@ -75,7 +75,7 @@ pub written-read : (κs κs′ : Lfts 3) (a : Dens κs write-kinds.ps) (b : Dens
     → (n : ℕ) → WritingTells u 0 (n ∷ []) → take n (x .1 .1 .1 .0 .now) ≡ b .0 .now
     → length (a .1 .0 .now) ≤ length (b .1 .0 .now) → length (a .1 .1 .0 .now) ≤ length (b .1 .1 .0 .now)
     → ReadingTells v 0 (a .0 ∷ (length (a .1 .0 .now) - 1) ∷ length (a .1 .1 .0 .now) ∷ [])
-        × (y .1 .0 .now ≡ padded (length (b .1 .0 .now)) (a .1 .0 .now)) × (y .1 .1 .0 .now ≡ padded (length (b .1 .1 .0 .now)) (a .1 .1 .0 .now))
+    × (y .1 .0 .now ≡ padded (length (b .1 .0 .now)) (a .1 .0 .now)) × (y .1 .1 .0 .now ≡ padded (length (b .1 .1 .0 .now)) (a .1 .1 .0 .now))
 written-read κs κs′ a b u v x y p q n told text h g =
     let R : Reads (take n (x .1 .1 .1 .0 .now)) (b .1 .0 .now) (b .1 .1 .0 .now) v (y .1 .0 .now) (y .1 .1 .0 .now) = rw text (read-says κs′ b v y q) in
     tables-trip (write-says κs a u x p) told R h g

@@ -43,7 +43,7 @@ module _ {sheet offsets codes : List ℕ} {r : Reading} {o c : List ℕ} (R : Re
   read-refuses = record {
     exactly = λ n p. (
       λ t. refusal-means (length offsets) (length codes) sheet (told-refusal t),
-      λ m. rw (meaning-refused (length offsets) (length codes) sheet m) at (R .told)
+      λ m. rw (meaning-refused (length offsets) (length codes) sheet m) at (R .told),
     );
     accepted = λ k site e f. rw (accepts (length offsets) (length codes) sheet k site e f) at (R .told);
     emptied = λ n p t. (R .offsets-are ∙ rw (told-refusal t) (none-zeros offsets), R .codes-are ∙ rw (told-refusal t) (none-zeros codes));

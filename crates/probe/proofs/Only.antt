@@ -1,21 +1,24 @@
--- One answer only: two values and two sets of buffers that meet a call's contract are equal.
-use mathlib.Core.List.{List}
-use mathlib.Core.Path.{_≡_, sym, _∙_}
+-- One answer only: two values and two sets of buffers that meet a call's contract are equal. `Post` is the contract itself, as it is
+-- read from the code; of the parameters, the buffers are the last ones.
+use mathlib.Core.Path.{sym, _∙_}
 use Prim.Native.Nat.{ℕ}
-use Rattle.probe.specs.Probe.{AfterJoin, probeJoin, AfterRead, probeRead, AfterWrite, probeWrite}
+use Rattle.words.proofs.OneAnswer.{OneAnswer}
+use Rattle.probe.specs.Probe.{AfterJoin, afterJoin, AfterRead, afterRead, AfterWrite, afterWrite}
+use Rattle.probe.proofs.probe_join.Kinds as probe-join-kinds
+use Rattle.probe.proofs.probe_join.Reads as probe-join
+use Rattle.probe.proofs.probe_read.Kinds as probe-read-kinds
+use Rattle.probe.proofs.probe_read.Reads as probe-read
+use Rattle.probe.proofs.probe_write.Kinds as probe-write-kinds
+use Rattle.probe.proofs.probe_write.Reads as probe-write
 
--- what equals one thing is one thing, and so for the value returned, which is 0
-both : {A : Type 0} {r s : ℕ} {a b c : A} → r ≡ 0 → s ≡ 0 → a ≡ c → b ≡ c → (r ≡ s) × (a ≡ b)
-both z y e f = (z ∙ sym y, e ∙ sym f)
+pub probe-join-only : OneAnswer 6 probe-join-kinds.ps probe-join-kinds.r probe-join.Post {B = ℕ × AfterJoin}
+    (λ κs u x. (u, afterJoin (x .1 .1 .1 .0 .now) (x .1 .1 .1 .1 .0 .now) (x .1 .1 .1 .1 .1 .0 .now) (x .1 .1 .1 .1 .1 .1 .0 .now)))
+probe-join-only κs a u v x y p q = λ i. ((p .0 ∙ sym (q .0)) i, (p .1 ∙ sym (q .1)) i)
 
-pub probe-join-only : (k : ℕ) (offsets codes list work trail answer : List ℕ) {r s : ℕ} {a b : AfterJoin} → r ≡ 0 → s ≡ 0
-    → a ≡ probeJoin k offsets codes list work trail answer → b ≡ probeJoin k offsets codes list work trail answer → (r ≡ s) × (a ≡ b)
-probe-join-only k offsets codes list work trail answer z y e f = both z y e f
+pub probe-read-only : OneAnswer 4 probe-read-kinds.ps probe-read-kinds.r probe-read.Post {B = ℕ × AfterRead}
+    (λ κs u x. (u, afterRead (x .1 .0 .now) (x .1 .1 .0 .now) (x .1 .1 .1 .0 .now)))
+probe-read-only κs a u v x y p q = λ i. ((p .0 ∙ sym (q .0)) i, (p .1 ∙ sym (q .1)) i)
 
-pub probe-read-only : (sheet offsets codes answer : List ℕ) {r s : ℕ} {a b : AfterRead} → r ≡ 0 → s ≡ 0
-    → a ≡ probeRead sheet offsets codes answer → b ≡ probeRead sheet offsets codes answer → (r ≡ s) × (a ≡ b)
-probe-read-only sheet offsets codes answer z y e f = both z y e f
-
-pub probe-write-only : (k : ℕ) (offsets codes text answer : List ℕ) {r s : ℕ} {a b : AfterWrite} → r ≡ 0 → s ≡ 0
-    → a ≡ probeWrite k offsets codes text answer → b ≡ probeWrite k offsets codes text answer → (r ≡ s) × (a ≡ b)
-probe-write-only k offsets codes text answer z y e f = both z y e f
+pub probe-write-only : OneAnswer 4 probe-write-kinds.ps probe-write-kinds.r probe-write.Post {B = ℕ × AfterWrite}
+    (λ κs u x. (u, afterWrite (x .1 .1 .1 .0 .now) (x .1 .1 .1 .1 .0 .now)))
+probe-write-only κs a u v x y p q = λ i. ((p .0 ∙ sym (q .0)) i, (p .1 ∙ sym (q .1)) i)

@@ -1,43 +1,26 @@
 -- The calls on plain words: the four words of each answer, and every word that each call leaves.
 use mathlib.Core.Bool.{cond}
-use mathlib.Core.List.{List, [], _∷_, _++_}
+use mathlib.Core.List.{List, _∷_, _++_}
 use Prim.Native.Nat.{ℕ}
 use lib.Dec.{ltb}
 use lib.ListN.{length, drop}
 use Rattle.site.specs.Tables.{siteOf}
 use Rattle.words.specs.Words.{padded}
 use Rattle.tables.specs.Checks.{tablesCheck}
-use Rattle.sheet.specs.Reading.{readSheet}
+use Rattle.sheet.specs.Read.{readNumber, readValues}
 use Rattle.sheet.specs.Text.{sheetText}
-use Rattle.search.specs.Outcome.{Outcome}
-use Rattle.search.specs.declared.Answer.{Answer}
-use Rattle.search.specs.declared.Answer.the-variants as answer
+use Rattle.search.specs.Outcome.{Outcome, answerNumber, answerValues}
 use Rattle.join.specs.Join.{joinOf}
-use Rattle.reader.specs.Answers.{answerOf, offsetsBy, codesBy}
-use Rattle.reader.specs.declared.Reading.{Reading}
-use Rattle.reader.specs.declared.Reading.the-variants as reading
-use Rattle.writer.specs.Writes.{answerBy, textBy}
-use Rattle.writer.specs.declared.Writing.{Writing}
-use Rattle.writer.specs.declared.Writing.the-variants as writing
+use Rattle.reader.specs.Answers.{sheetValues, readingAt, offsetsBy, codesBy}
+use Rattle.writer.specs.Writes.{writingNumber, writingValues, answerBy, textBy}
 
 -- ---- four words
 
--- accepted: 0, found, events, met; refused: number, place, 0, 0
-unfoldable pub joinWords : Answer → List ℕ
-joinWords (answer.Listed found events met) = 0 ∷ found ∷ events ∷ met ∷ []
-joinWords (answer.Refused n p) = n ∷ p ∷ 0 ∷ 0 ∷ []
+-- an answer in words: its number, its values, and zeros behind them
+unfoldable pub fourWords : ℕ → List ℕ → List ℕ
+fourWords number values = padded 4 (number ∷ values)
 
--- accepted: 0, k, contexts, codes
-unfoldable pub readWords : Reading → List ℕ
-readWords (reading.Sheet k contexts codes) = 0 ∷ k ∷ contexts ∷ codes ∷ []
-readWords (reading.Refused n p) = n ∷ p ∷ 0 ∷ 0 ∷ []
-
--- accepted: 0, length, 0, 0
-unfoldable pub writeWords : Writing → List ℕ
-writeWords (writing.Written length) = 0 ∷ length ∷ 0 ∷ 0 ∷ []
-writeWords (writing.Refused n p) = n ∷ p ∷ 0 ∷ 0 ∷ []
-
--- four words at the front of the answer, the rest as it was
+-- they stand at the front of the lent answer, the rest is as it was
 abbrev pub told : List ℕ → List ℕ → List ℕ
 told words old = words ++ drop 4 old
 
@@ -55,12 +38,13 @@ abbrev pub afterJoin : List ℕ → List ℕ → List ℕ → List ℕ → After
 afterJoin list work trail answer = record { list = list; work = work; trail = trail; answer = answer }
 
 -- the outcome of a join, in words
-abbrev pub inWords : Outcome → List ℕ → AfterJoin
-inWords o old = afterJoin (o .list) (o .work) (o .trail) (told (joinWords (o .answer)) old)
+abbrev pub joinLeft : Outcome → List ℕ → AfterJoin
+joinLeft o old = afterJoin (o .list) (o .work) (o .trail) (told (fourWords (answerNumber (o .answer)) (answerValues (o .answer))) old)
 
 -- what `probe_join` leaves
 unfoldable pub probeJoin : ℕ → List ℕ → List ℕ → List ℕ → List ℕ → List ℕ → List ℕ → AfterJoin
-probeJoin k offsets codes list work trail old = cond (ltb (length old) 4) (afterJoin list work trail old) (inWords (joinOf k offsets codes list work trail) old)
+probeJoin k offsets codes list work trail old =
+    cond (ltb (length old) 4) (afterJoin list work trail old) (joinLeft (joinOf k offsets codes list work trail) old)
 
 -- the reader's two tables, and the answer
 pub record AfterRead : Type 0 where
@@ -75,8 +59,11 @@ afterRead offsets codes answer = record { offsets = offsets; codes = codes; answ
 -- what `probe_read` leaves
 unfoldable pub probeRead : List ℕ → List ℕ → List ℕ → List ℕ → AfterRead
 probeRead sheet offsets codes old =
-    let x = readSheet (length offsets) (length codes) sheet in
-    cond (ltb (length old) 4) (afterRead offsets codes old) (afterRead (padded (length offsets) (offsetsBy x)) (padded (length codes) (codesBy x)) (told (readWords (answerOf x)) old))
+    let x = readingAt offsets codes sheet in
+    let answer = told (fourWords (readNumber x) (readValues sheetValues x)) old in
+    cond (ltb (length old) 4)
+    (afterRead offsets codes old)
+    (afterRead (padded (length offsets) (offsetsBy x)) (padded (length codes) (codesBy x)) answer)
 
 -- the writer's text, and the answer
 pub record AfterWrite : Type 0 where
@@ -92,4 +79,5 @@ unfoldable pub probeWrite : ℕ → List ℕ → List ℕ → List ℕ → List 
 probeWrite k offsets codes text old =
     let x = tablesCheck k offsets codes in
     let s = sheetText k (siteOf offsets codes) in
-    cond (ltb (length old) 4) (afterWrite text old) (afterWrite (textBy x s text) (told (writeWords (answerBy x s (length text))) old))
+    let r = answerBy x s (length text) in
+    cond (ltb (length old) 4) (afterWrite text old) (afterWrite (textBy x s text) (told (fourWords (writingNumber r) (writingValues r)) old))

@@ -4,7 +4,10 @@ ghost use mathlib.Core.List.{[], _∷_};
 ghost use mathlib.Core.Path.{_≡_};
 ghost use Prim.Native.Nat.{_≤_};
 ghost use lib.ListN.{length};
-ghost use Rattle.probe.specs.Probe.{joinWords, readWords, writeWords, told, afterJoin, probeJoin, afterRead, probeRead, afterWrite, probeWrite};
+ghost use Rattle.search.specs.Outcome.{answerNumber, answerValues};
+ghost use Rattle.reader.specs.Answers.{readingNumber, readingValues};
+ghost use Rattle.writer.specs.Writes.{writingNumber, writingValues};
+ghost use Rattle.probe.specs.Probe.{fourWords, told, afterJoin, probeJoin, afterRead, probeRead, afterWrite, probeWrite};
 use join::Answer;
 use join::join;
 use reader::Reading;
@@ -23,9 +26,10 @@ fn put(answer: &mut [u64], a: u64, b: u64, c: u64, d: u64)
     answer[3] = d;
 }
 
+// The words of a join's answer.
 fn put_join(answer: &mut [u64], r: Answer)
     requires { ⌜ 4 ≤ length (now answer) ⌝ }
-    ensures { λ _. ⌜ now (answer .exit) ≡ told (joinWords r) (now (answer .entry)) ⌝ }
+    ensures { λ _. ⌜ now (answer .exit) ≡ told (fourWords (answerNumber r) (answerValues r)) (now (answer .entry)) ⌝ }
 {
     match r {
         Answer::Listed { found, events, met } => {
@@ -35,9 +39,10 @@ fn put_join(answer: &mut [u64], r: Answer)
     }
 }
 
+// The words of a reading.
 fn put_read(answer: &mut [u64], r: Reading)
     requires { ⌜ 4 ≤ length (now answer) ⌝ }
-    ensures { λ _. ⌜ now (answer .exit) ≡ told (readWords r) (now (answer .entry)) ⌝ }
+    ensures { λ _. ⌜ now (answer .exit) ≡ told (fourWords (readingNumber r) (readingValues r)) (now (answer .entry)) ⌝ }
 {
     match r {
         Reading::Sheet { k, contexts, codes } => {
@@ -47,9 +52,10 @@ fn put_read(answer: &mut [u64], r: Reading)
     }
 }
 
+// The words of the writer's answer.
 fn put_write(answer: &mut [u64], r: Writing)
     requires { ⌜ 4 ≤ length (now answer) ⌝ }
-    ensures { λ _. ⌜ now (answer .exit) ≡ told (writeWords r) (now (answer .entry)) ⌝ }
+    ensures { λ _. ⌜ now (answer .exit) ≡ told (fourWords (writingNumber r) (writingValues r)) (now (answer .entry)) ⌝ }
 {
     match r {
         Writing::Written(length) => put(answer, 0, length as u64, 0, 0),
@@ -57,6 +63,7 @@ fn put_write(answer: &mut [u64], r: Writing)
     }
 }
 
+// The join.
 #[no_mangle]
 pub extern "C" fn probe_join(
     k: u16,
@@ -68,7 +75,8 @@ pub extern "C" fn probe_join(
     answer: &mut [u64],
 ) -> u64
     ensures { λ r. ⌜ r ≡ 0 ⌝ }
-    ensures { λ _. ⌜ afterJoin (now (list .exit)) (now (work .exit)) (now (trail .exit)) (now (answer .exit)) ≡ probeJoin k (now (offsets .entry)) (now (codes .entry)) (now (list .entry)) (now (work .entry)) (now (trail .entry)) (now (answer .entry)) ⌝ }
+    ensures { λ _. ⌜ afterJoin (now (list .exit)) (now (work .exit)) (now (trail .exit)) (now (answer .exit))
+        ≡ probeJoin k (now (offsets .entry)) (now (codes .entry)) (now (list .entry)) (now (work .entry)) (now (trail .entry)) (now (answer .entry)) ⌝ }
 {
     if answer.len() < 4 {
         return 0;
@@ -78,6 +86,7 @@ pub extern "C" fn probe_join(
     0
 }
 
+// The reader.
 #[no_mangle]
 pub extern "C" fn probe_read(
     sheet: &[u8],
@@ -86,7 +95,8 @@ pub extern "C" fn probe_read(
     answer: &mut [u64],
 ) -> u64
     ensures { λ r. ⌜ r ≡ 0 ⌝ }
-    ensures { λ _. ⌜ afterRead (now (offsets .exit)) (now (codes .exit)) (now (answer .exit)) ≡ probeRead (now (sheet .entry)) (now (offsets .entry)) (now (codes .entry)) (now (answer .entry)) ⌝ }
+    ensures { λ _. ⌜ afterRead (now (offsets .exit)) (now (codes .exit)) (now (answer .exit))
+        ≡ probeRead (now (sheet .entry)) (now (offsets .entry)) (now (codes .entry)) (now (answer .entry)) ⌝ }
 {
     if answer.len() < 4 {
         return 0;
@@ -96,6 +106,7 @@ pub extern "C" fn probe_read(
     0
 }
 
+// The writer.
 #[no_mangle]
 pub extern "C" fn probe_write(
     k: u16,
@@ -105,7 +116,8 @@ pub extern "C" fn probe_write(
     answer: &mut [u64],
 ) -> u64
     ensures { λ r. ⌜ r ≡ 0 ⌝ }
-    ensures { λ _. ⌜ afterWrite (now (text .exit)) (now (answer .exit)) ≡ probeWrite k (now (offsets .entry)) (now (codes .entry)) (now (text .entry)) (now (answer .entry)) ⌝ }
+    ensures { λ _. ⌜ afterWrite (now (text .exit)) (now (answer .exit))
+        ≡ probeWrite k (now (offsets .entry)) (now (codes .entry)) (now (text .entry)) (now (answer .entry)) ⌝ }
 {
     if answer.len() < 4 {
         return 0;

@@ -1,3 +1,4 @@
+-- `probe::probe_join` meets its contract: nothing is done, or the join's own contract in words.
 use mathlib.Core.Path.{refl}
 use Rattle.probe.proofs.Probed.{join-left, join-told}
 use borrow.Author.Needs.{needs}
@@ -8,7 +9,11 @@ returns : tie.Need-returns
 returns c = (refl, join-left _ _ _ _ _ _ _ (c .if1 .taken))
 
 returns-2 : tie.Need-returns-2
-returns-2 c = let a = c .before .before .before .before .before .before .before .before .before .before .before .before .before .before .before .before .before .before .before .before .before .args in (refl, join-told (a .k) (a .offsets .now) (a .codes .now) (a .list .now) (a .work .now) (a .trail .now) (a .answer .now) (c .before .before .before .before .before .before .before .before .before .before .before .before .before .before .if1 .left) _ (c .before .before .before .before .before .before .before .before .before .before .join .ensures) (c .before .before .put-join .ensures))
+returns-2 c =
+    let join = c .before .before .before .before .before .before .before .before .before .before in
+    let entered = join .before .before .before .before in
+    let a = entered .before .before .before .before .before .before .before .args in
+    (refl, join-told (a .k) (a .offsets .now) (a .codes .now) (a .list .now) (a .work .now) (a .trail .now) (a .answer .now) (entered .if1 .left) _ (join .join .ensures) (c .before .before .put-join .ensures))
 
 pub probe-join-spec : {M : Type 1} → statement M
 probe-join-spec =

@@ -1,3 +1,4 @@
+-- `probe::probe_read` meets its contract: nothing is done, or the reader's own contract in words.
 use mathlib.Core.Path.{refl}
 use Rattle.probe.proofs.Probed.{read-left, read-told}
 use borrow.Author.Needs.{needs}
@@ -8,7 +9,11 @@ returns : tie.Need-returns
 returns c = (refl, read-left _ _ _ _ (c .if1 .taken))
 
 returns-2 : tie.Need-returns-2
-returns-2 c = let a = c .before .before .before .before .before .before .before .before .before .before .before .before .before .before .before .before .args in let e = c .before .before .before .before .before .before .before .before .read .ensures in (refl, read-told (a .sheet .now) (a .offsets .now) (a .codes .now) (a .answer .now) (c .before .before .before .before .before .before .before .before .before .before .before .if1 .left) _ (e .answer) (e .offsets-are) (e .codes-are) (c .before .before .put-read .ensures))
+returns-2 c =
+    let read = c .before .before .before .before .before .before .before .before in
+    let entered = read .before .before .before in
+    let a = entered .before .before .before .before .before .args in
+    (refl, read-told (a .sheet .now) (a .offsets .now) (a .codes .now) (a .answer .now) (entered .if1 .left) (read .read .ensures) (c .before .before .put-read .ensures))
 
 pub probe-read-spec : {M : Type 1} → statement M
 probe-read-spec =

@@ -1,3 +1,4 @@
+-- `probe::probe_write` meets its contract: nothing is done, or the writer's own contract in words.
 use mathlib.Core.Path.{refl}
 use Rattle.probe.proofs.Probed.{write-left, write-told}
 use borrow.Author.Needs.{needs}
@@ -8,7 +9,11 @@ returns : tie.Need-returns
 returns c = (refl, write-left _ _ _ _ _ (c .if1 .taken))
 
 returns-2 : tie.Need-returns-2
-returns-2 c = let a = c .before .before .before .before .before .before .before .before .before .before .before .before .before .args in let e = c .before .before .before .before .before .before .write .ensures in (refl, write-told (a .k) (a .offsets .now) (a .codes .now) (a .text .now) (a .answer .now) (c .before .before .before .before .before .before .before .before .if1 .left) _ (e .answer) (e .text-is) (c .before .before .put-write .ensures))
+returns-2 c =
+    let write = c .before .before .before .before .before .before in
+    let entered = write .before .before in
+    let a = entered .before .before .before .before .before .args in
+    (refl, write-told (a .k) (a .offsets .now) (a .codes .now) (a .text .now) (a .answer .now) (entered .if1 .left) (write .write .ensures) (c .before .before .put-write .ensures))
 
 pub probe-write-spec : {M : Type 1} → statement M
 probe-write-spec =

@@ -1,14 +1,15 @@
-use Rattle.probe.specs.Probe.{writeWords}
+use Rattle.words.specs.Words.{padded}
+use Rattle.probe.specs.Probe.{fourWords}
 use borrow.Author.Needs.{needs}
 use Rattle.probe.proofs.put_write.Statement.{statement}
 use Rattle.probe.proofs.put_write.Tie as tie
 
 returns : tie.Need-returns
-unfolding writeWords
+unfolding fourWords padded
 returns c = rw (c .before .before .before .before .before .r .given .1) (c .before .before .put .ensures)
 
 returns-2 : tie.Need-returns-2
-unfolding writeWords
+unfolding fourWords padded
 returns-2 c = rw (c .before .before .before .before .before .r2 .given .1) (c .before .before .put2 .ensures)
 
 pub put-write-spec : {M : Type 1} → statement M
