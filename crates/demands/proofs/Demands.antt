@@ -77,7 +77,8 @@ pub written-read : (κs κs′ : Lfts 3) (a : Dens κs write-kinds.ps) (b : Dens
     → ReadingTells v 0 (a .0 ∷ (length (a .1 .0 .now) - 1) ∷ length (a .1 .1 .0 .now) ∷ [])
     × (y .1 .0 .now ≡ padded (length (b .1 .0 .now)) (a .1 .0 .now)) × (y .1 .1 .0 .now ≡ padded (length (b .1 .1 .0 .now)) (a .1 .1 .0 .now))
 written-read κs κs′ a b u v x y p q n told text h g =
-    let R : Reads (take n (x .1 .1 .1 .0 .now)) (b .1 .0 .now) (b .1 .1 .0 .now) v (y .1 .0 .now) (y .1 .1 .0 .now) = rw text (read-says κs′ b v y q) in
+    let R : Reads (take n (x .1 .1 .1 .0 .now)) (b .1 .0 .now) (b .1 .1 .0 .now) v (y .1 .0 .now) (y .1 .1 .0 .now) =
+    rw text (read-says κs′ b v y q) in
     tables-trip (write-says κs a u x p) told R h g
 
 -- ---- demand 3: the trail of a join that tells f, e and m

@@ -76,7 +76,8 @@ pub extern "C" fn probe_join(
 ) -> u64
     ensures { λ r. ⌜ r ≡ 0 ⌝ }
     ensures { λ _. ⌜ afterJoin (now (list .exit)) (now (work .exit)) (now (trail .exit)) (now (answer .exit))
-        ≡ probeJoin k (now (offsets .entry)) (now (codes .entry)) (now (list .entry)) (now (work .entry)) (now (trail .entry)) (now (answer .entry)) ⌝ }
+        ≡ probeJoin k (now (offsets .entry)) (now (codes .entry))
+        (now (list .entry)) (now (work .entry)) (now (trail .entry)) (now (answer .entry)) ⌝ }
 {
     if answer.len() < 4 {
         return 0;
