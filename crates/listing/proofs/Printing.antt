@@ -14,12 +14,13 @@ use Rattle.pen.specs.declared.Pen.{Pen}
 use Rattle.pen.specs.Lines.{Lined}
 use Rattle.pen.proofs.Past.{line-moved}
 use Rattle.listing.specs.Listing.{refusedKey, refusedText, listingOf, fitted, listingIn, printed}
-use Rattle.listing.specs.Answers.{answerOf, bytesOf}
+use Rattle.listing.specs.Answers.{listingBy, bytesOf}
 use Rattle.listing.specs.Calls.{Lists, pageRoom, Prints}
 use Rattle.listing.specs.declared.Listing.{Listing}
 use Rattle.listing.specs.declared.Listing.the-variants as listing
 use Rattle.listing.proofs.Short.{line-short, listing-short}
 use Rattle.listing.proofs.Refusals.{SmallRefusal, refusal-small}
+use Rattle.listing.proofs.Telling.{by-refused}
 
 -- ---- every listing fits
 
@@ -35,14 +36,9 @@ listing-fits room sheet h = whole-by room (listingOf sheet) (λ text e. omega (a
 
 -- ---- what the answer tells
 
-answer-refused : (x : Read (List ℕ)) {n p : ℕ} → answerOf x ≡ listing.Refused n p → x ≡ refused n p
-unfolding answerOf
-answer-refused (value t) e = let y : _≡_ {A = ℕ} 0 1 = cc e in absurd (omega arith)
-answer-refused (refused m q) {n} {p} e = let a : m ≡ n = cc e in let b : q ≡ p = cc e in λ i. refused (a i) (b i)
-
 -- the text of an answer that lists
-answer-text : (x : Read (List ℕ)) {n : ℕ} → answerOf x ≡ listing.Text n → (n ≡ length (printed x)) × (bytesOf x ≡ printed x)
-unfolding answerOf bytesOf printed
+answer-text : (x : Read (List ℕ)) {n : ℕ} → listingBy x ≡ listing.Text n → (n ≡ length (printed x)) × (bytesOf x ≡ printed x)
+unfolding listingBy bytesOf printed
 answer-text (value t) {n} e = let a : length t ≡ n = cc e in (sym a, refl)
 answer-text (refused m q) e = let y : _≡_ {A = ℕ} 0 1 = cc e in absurd (omega arith)
 
@@ -57,7 +53,7 @@ module _ {sheet text text₂ : List ℕ} {r : Listing} (w : Lists sheet text r t
 
   module _ {n p : ℕ} (e : r ≡ listing.Refused n p) where
     stopped : listingOf sheet ≡ refused n p
-    stopped = answer-refused (listingOf sheet) (sym (rw whole at (w .answer)) ∙ e)
+    stopped = by-refused (listingOf sheet) (sym (rw whole at (w .answer)) ∙ e)
 
     pub refusal-fits : SmallRefusal n p
     refusal-fits = refusal-small sheet stopped

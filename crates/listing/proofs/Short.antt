@@ -11,12 +11,13 @@ use borrow.Author.Tests.{lt-ltb, le-ltb}
 use Rattle.order.specs.Order.{_∈_}
 use Rattle.site.specs.Measure.{inUse}
 use Rattle.site.specs.Site.{Site, Rising, Pair, Shares, sizeOf, codesOf, union, listOf}
-use Rattle.site.specs.Events.{eventsDone, trail}
+use Rattle.site.specs.Events.{found, events, met}
 use Rattle.site.specs.Tables.{siteOf, offsetsOf, allCodes}
 use Rattle.site.proofs.Contexts.{first-bound}
 use Rattle.site.proofs.Best.{list-shares}
 use Rattle.words.specs.Words.{flat}
 use Rattle.words.proofs.Split.{by-le}
+use Rattle.tables.proofs.Cuts.{site-back}
 use Rattle.tables.proofs.Sound.{contexts-are, size-small, sound-rises}
 use Rattle.entries.specs.Entries.{words, entryOf}
 use Rattle.sheet.specs.Read.{Read, value, refused}
@@ -28,7 +29,6 @@ use Rattle.sheet.proofs.Digits.{length-one, length-more}
 use Rattle.sheet.proofs.Lines.{then-value}
 use Rattle.pen.proofs.Lined.{line-length}
 use Rattle.listing.specs.Listing.{foundKey, eventsKey, metKey, pairKey, entryText, entriesText, countsText, listingText, listed, listingOf}
-use Rattle.listing.proofs.Joining.{tables-back}
 use Rattle.listing.proofs.Passing.{Passed, joined-passed, found-few, events-most}
 
 -- ---- numbers, lines
@@ -56,14 +56,14 @@ module _ {s : Sheet} (p : Passed s) where
   tables = siteOf (offsetsOf (s .site)) (allCodes (s .site))
 
   rises : Rising (s .site)
-  rises = subst Rising (tables-back (s .site)) (sound-rises (p .sound))
+  rises = subst Rising (site-back [] (s .site)) (sound-rises (p .sound))
 
   contexts-few : length (s .site) ≤ 256
-  contexts-few = omega (arith, contexts-are (p .sound), p .sound .few, ap (λ (z : Site). length z) (tables-back (s .site)))
+  contexts-few = omega (arith, contexts-are (p .sound), p .sound .few, ap (λ (z : Site). length z) (site-back [] (s .site)))
 
   size-few : (i : ℕ) → i < length (s .site) → sizeOf (s .site) i ≤ 4096
   size-few i h =
-      let b = tables-back (s .site) in
+      let b = site-back [] (s .site) in
       let l : length tables ≡ length (s .site) = ap (λ (z : Site). length z) b in
       let z : sizeOf tables i ≡ sizeOf (s .site) i = ap (λ (z : Site). sizeOf z i) b in
       omega (arith, z, size-small (p .sound) i (omega (arith, l, contexts-are (p .sound))))
@@ -93,9 +93,9 @@ module _ {s : Sheet} (p : Passed s) where
       let m = p .met in
       let k = p .asked in
       let a = line-short kKey (s .k ∷ []) (omega arith, tt) in
-      let b = line-short foundKey (length (listOf inUse (s .site) (s .k)) ∷ []) (omega arith, tt) in
-      let c = line-short eventsKey (length (eventsDone inUse (s .site) (s .k)) ∷ []) (omega arith, tt) in
-      let d = line-short metKey (length (trail inUse (s .site) (s .k)) ∷ []) (omega arith, tt) in
+      let b = line-short foundKey (found inUse (s .site) (s .k) ∷ []) (omega arith, tt) in
+      let c = line-short eventsKey (events inUse (s .site) (s .k) ∷ []) (omega arith, tt) in
+      let d = line-short metKey (met inUse (s .site) (s .k) ∷ []) (omega arith, tt) in
       let g = pairs-short (listOf inUse (s .site) (s .k)) (list-shares inUse (s .site) (s .k)) in
       rw (length-append, length-append, length-append, length-append) (omega arith)
 
