@@ -9,7 +9,7 @@ use borrow.Author.Tests.{lt-ltb, le-ltb}
 use Rattle.site.specs.Measure.{inUse}
 use Rattle.site.specs.Site.{listOf}
 use Rattle.site.specs.Events.{found}
-use Rattle.words.specs.Words.{flat, padded}
+use Rattle.words.specs.Words.{flat, padded, zeroedFrom}
 use Rattle.entries.specs.Entries.{words, entryOf, entries}
 use Rattle.entries.proofs.Reading.{flat-width, entries-held}
 use Rattle.words.proofs.Words.{held}
@@ -19,7 +19,8 @@ use Rattle.sheet.specs.Read.{Read, value, refused, _then_}
 use Rattle.sheet.specs.Reading.{Sheet, readSheet}
 use Rattle.sheet.proofs.Tables.{front-fits}
 use Rattle.listing.specs.Listing.{linesText, listingText, joined, listed, listingOf, fitted, listingIn}
-use Rattle.listing.specs.Answers.{listRoom, listingBy, bytesOf, SheetJoined, front, Added, Put, PutText}
+use Rattle.listing.specs.Answers.{listRoom, listingBy, bytesOf, SheetJoined, frontPen, Added, Put, PutText}
+use Rattle.listing.specs.Calls.{Lists}
 use Rattle.listing.proofs.Adding.{added-stop}
 use Rattle.listing.proofs.Passing.{counts-refused, counted, joined-passed, found-few}
 use Rattle.listing.specs.declared.Listing.{Listing}
@@ -31,16 +32,18 @@ use Rattle.listing.specs.declared.Penned.the-variants.{On, Full}
 
 -- ---- the two ways of a text
 
+-- a refusal
 put-refused : {x : Read (List ℕ)} {n p : ℕ} (now : List ℕ) → x ≡ refused n p → Put x now (listing.Refused n p)
 unfolding listingBy bytesOf
 put-refused now e = record { answer = rw e; front = rw e }
 
-module _ {bs old now : List ℕ} {r : Penned} (w : Added bs old now (front old) r) where
+module _ {bs old now : List ℕ} {r : Penned} (w : Added bs old now (frontPen old) r) where
   -- 12
   pub put-full : r ≡ Full → PutText bs old now (listing.Refused 12 0)
   unfolding fitted
   put-full e = put-refused now (rw (lt-ltb (length old) (length bs) (w .full e)))
 
+  -- the text
   pub put-text : {q : Pen} → r ≡ On q → PutText bs old now (listing.Text (q .place))
   unfolding fitted listingBy bytesOf
   put-text {q} e =
@@ -50,7 +53,7 @@ module _ {bs old now : List ℕ} {r : Penned} (w : Added bs old now (front old) 
       record { answer = rw (x, p); front = rw x (ap (λ (n : ℕ). take n now) (sym p) ∙ h .front) }
 
 -- nothing more fits
-pub text-full : {bs old now : List ℕ} {r : Penned} (cs : List ℕ) → Added bs old now (front old) r → r ≡ Full → PutText (bs ++ cs) old now (listing.Refused 12 0)
+pub text-full : {bs old now : List ℕ} {r : Penned} (cs : List ℕ) → Added bs old now (frontPen old) r → r ≡ Full → PutText (bs ++ cs) old now (listing.Refused 12 0)
 text-full cs w e = put-full (added-stop w cs e) e
 
 -- ---- what the join told
@@ -81,6 +84,7 @@ module _ (sheet : List ℕ) (room : ℕ) where
     unfolding listingIn listingOf
     put-told e now = put-refused now (rw (listed-is, counts-refused _ (sym (t .answer) ∙ e)))
 
+    -- what the counts and the entries are written for
     pub put-counts : {k f e m : ℕ} → j ≡ told.Counts k f e m → {now : List ℕ} {r : Listing}
         → Put (fitted room (linesText k f e m (entries f list))) now r → Put (listingIn room sheet) now r
     unfolding listingIn listingOf listingText
@@ -93,6 +97,7 @@ module _ (sheet : List ℕ) (room : ℕ) where
 
 -- ---- zeros behind it
 
+-- the length of the text that an answer tells, and after a refusal none
 text-length : (x : Read (List ℕ)) {n : ℕ} → listingBy x ≡ listing.Text n → n ≡ length (bytesOf x)
 unfolding listingBy bytesOf
 text-length (value t) {n} e = let a : length t ≡ n = cc e in sym a
@@ -107,13 +112,16 @@ none-length (refused m q) e = refl
 pub put-room : {x : Read (List ℕ)} {mid : List ℕ} {r : Listing} → Put x mid r → {n : ℕ} → r ≡ listing.Text n → n ≤ length mid
 put-room {x} {mid} w e = let l = text-length x (sym (w .answer) ∙ e) in omega (arith, front-fits (length (bytesOf x)) mid (bytesOf x) (w .front) refl)
 
-module _ {x : Read (List ℕ)} {mid : List ℕ} {r : Listing} (w : Put x mid r) (room : ℕ) (l : length mid ≡ room) {now : List ℕ} where
-  zeroed : {n : ℕ} → n ≡ length (bytesOf x) → now ≡ take n mid ++ replicate (length mid - n) 0 → now ≡ padded room (bytesOf x)
-  unfolding padded
-  zeroed {n} e o = o ∙ ap₂ _++_ (ap (λ (j : ℕ). take j mid) e ∙ w .front) (λ i. replicate (l i - e i) 0)
+zeroed : {x : Read (List ℕ)} {mid : List ℕ} {r : Listing} → Put x mid r → {room : ℕ} → length mid ≡ room → {n : ℕ} → n ≡ length (bytesOf x)
+    → {now : List ℕ} → now ≡ zeroedFrom mid n → now ≡ padded room (bytesOf x)
+unfolding padded
+zeroed {mid = mid} w l e o = o ∙ ap₂ _++_ (ap (λ (j : ℕ). take j mid) e ∙ w .front) (λ i. replicate (l i - e i) 0)
 
-  pub listing-done : {n : ℕ} → r ≡ listing.Text n → now ≡ take n mid ++ replicate (length mid - n) 0 → (listing.Text n ≡ listingBy x) × (now ≡ padded room (bytesOf x))
-  listing-done e o = (sym e ∙ w .answer, zeroed (text-length x (sym (w .answer) ∙ e)) o)
+module _ {sheet text mid now : List ℕ} {r : Listing} (w : Put (listingIn (length text) sheet) mid r) (l : length mid ≡ length text) where
+  -- behind a text
+  pub listing-done : {n : ℕ} → r ≡ listing.Text n → now ≡ zeroedFrom mid n → Lists sheet text (listing.Text n) now
+  listing-done e o = record { answer = sym e ∙ w .answer; text-is = zeroed w l (text-length _ (sym (w .answer) ∙ e)) o }
 
-  pub listing-refused : {n p : ℕ} → r ≡ listing.Refused n p → now ≡ take 0 mid ++ replicate (length mid - 0) 0 → (r ≡ listingBy x) × (now ≡ padded room (bytesOf x))
-  listing-refused e o = (w .answer, zeroed (none-length x (sym (w .answer) ∙ e)) o)
+  -- everywhere after a refusal
+  pub listing-refused : {n p : ℕ} → r ≡ listing.Refused n p → now ≡ zeroedFrom mid 0 → Lists sheet text r now
+  listing-refused e o = record { answer = w .answer; text-is = zeroed w l (none-length _ (sym (w .answer) ∙ e)) o }

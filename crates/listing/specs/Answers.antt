@@ -2,11 +2,11 @@
 use mathlib.Core.List.{List, [], _∷_}
 use mathlib.Core.Path.{_≡_}
 use Prim.Native.Nat.{ℕ, _*_, _<_}
-use lib.ListN.{length, take}
+use lib.ListN.{length}
 use Rattle.site.specs.Measure.{inUse}
 use Rattle.site.specs.Events.{found, events, met}
 use Rattle.site.specs.Tables.{offsetsOf, allCodes}
-use Rattle.words.specs.Words.{padded}
+use Rattle.words.specs.Words.{padded, Begins}
 use Rattle.entries.specs.Entries.{width}
 use Rattle.search.specs.Outcome.{listedWords}
 use Rattle.pen.specs.declared.Pen.{Pen}
@@ -69,8 +69,8 @@ TablesJoined k offsets codes list r =
     (s : Sheet) → k ≡ s .k → offsets ≡ offsetsOf (s .site) → codes ≡ allCodes (s .site) → SheetJoined (joined s) list r
 
 -- a pen at the front of a text
-abbrev pub front : List ℕ → Pen
-front text = record { place = 0; room = length text }
+abbrev pub frontPen : List ℕ → Pen
+frontPen text = record { place = 0; room = length text }
 
 -- a line or lines, bs, written behind the pen p: the pen behind them, or no room for them
 pub record Added (bs old now : List ℕ) (p : Pen) (r : Penned) : Type 0 where
@@ -81,7 +81,7 @@ pub record Added (bs old now : List ℕ) (p : Pen) (r : Penned) : Type 0 where
 -- a listing, x: the answer, and the bytes at the front of the lent text
 pub record Put (x : Read (List ℕ)) (now : List ℕ) (r : Listing) : Type 0 where
   pub answer : r ≡ listingBy x
-  pub front : take (length (bytesOf x)) now ≡ bytesOf x
+  pub front : Begins now (bytesOf x)
 
 -- the same of a text that is written into old, if it has room there
 abbrev pub PutText : List ℕ → List ℕ → List ℕ → Listing → Type 0

@@ -15,7 +15,7 @@ ghost use Rattle.sheet.specs.Read.{_then_};
 ghost use Rattle.sheet.specs.Reading.{readSheet};
 ghost use Rattle.sheet.specs.Text.{lineText};
 ghost use Rattle.listing.specs.Listing.{countsText, entriesText, linesText, joined, listingIn, refusedText};
-ghost use Rattle.listing.specs.Answers.{listRoom, SheetJoined, TablesJoined, front, Added, Put, PutText};
+ghost use Rattle.listing.specs.Answers.{listRoom, SheetJoined, TablesJoined, frontPen, Added, Put, PutText};
 ghost use Rattle.listing.specs.Calls.{pageRoom, Lists, Prints};
 
 // The most bytes of a sheet.
@@ -118,7 +118,7 @@ fn add_number(text: &mut [u8], p: Pen, key: &[u8], n: u16) -> Penned
 
 // Writes k and the three counts at the front of the text.
 fn add_counts(text: &mut [u8], k: u16, found: u16, events: u16, met: u16) -> Penned
-    ensures { λ r. ⌜ Added (countsText k found events met) (now (text .entry)) (now (text .exit)) (front (now (text .entry))) r ⌝ }
+    ensures { λ r. ⌜ Added (countsText k found events met) (now (text .entry)) (now (text .exit)) (frontPen (now (text .entry))) r ⌝ }
 {
     let room = text.len();
     let r = add_number(text, Pen { place: 0, room }, b"k=", k);
