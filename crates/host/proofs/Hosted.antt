@@ -16,6 +16,7 @@ value-same (value text) = refl
 value-same (refused n p) = refl
 
 module _ {sheet text text₂ : List ℕ} {r : Listing} (w : Lists sheet text r text₂) where
+  -- the value of the answer, and the text as it is left
   hosted : {v : ℕ} → v ≡ hostValueBy r → Hosts sheet text v text₂
   hosted e = record { value-is = e ∙ ap hostValueBy (w .answer) ∙ value-same _; text-is = w .text-is }
 

@@ -30,6 +30,7 @@ use Rattle.join.proofs.Outcomes.{joins, listed-only}
 use Rattle.join.proofs.Causes.{fine-kept, refused-cause}
 use Rattle.sheet.specs.Read.{Read, value, refused}
 use Rattle.sheet.specs.Reading.{Sheet}
+use Rattle.sheet.proofs.Lines.{no-value}
 use Rattle.listing.specs.Listing.{joined}
 use Rattle.listing.specs.Answers.{listRoom, countsOf, SheetJoined, TablesJoined}
 use Rattle.listing.specs.declared.Joined.the-variants as told
@@ -59,10 +60,12 @@ module _ (s : Sheet) where
   unfolding joined
   joined-stops t = rw t
 
+  -- over 2,048 pairs are met
   pub joined-over : checked ≡ check.Fine → 2048 < met inUse (s .site) (s .k) → joined s ≡ refused 8 0
   unfolding joined
   joined-over t h = rw (t, lt-ltb 2048 (met inUse (s .site) (s .k)) h)
 
+  -- nothing is refused
   pub joined-is : checked ≡ check.Fine → met inUse (s .site) (s .k) ≤ 2048 → joined s ≡ value s
   unfolding joined
   joined-is t h = rw (t, le-ltb 2048 (met inUse (s .site) (s .k)) h)
@@ -70,10 +73,7 @@ module _ (s : Sheet) where
 -- what is refused is told so
 pub told-refused : {x : Read Sheet} {n p : ℕ} (l : List ℕ) → x ≡ refused n p → SheetJoined x l (told.Refused n p)
 unfolding countsOf
-told-refused {n = n} {p = p} l e = record {
-  answer = rw e;
-  held = λ s f. let z : _≡_ {A = Read Sheet} (refused n p) (value s) = sym e ∙ f in let y : _≡_ {A = ℕ} 0 1 = cc z in absurd (omega arith);
-}
+told-refused l e = record { answer = rw e; held = λ s f. no-value (sym e ∙ f) }
 
 -- and so are the counts of a sheet that is joined
 told-value : {x : Read Sheet} {s : Sheet} {k f e m : ℕ} {l : List ℕ} → x ≡ value s → k ≡ s .k
@@ -123,12 +123,15 @@ module _ {c : JoinCall} (j : Joins c) (rooms : Rooms c) where
 
   -- on the tables of a sheet
   module _ (s : Sheet) (asked : c .k ≡ s .k) (offsets : c .offsets ≡ offsetsOf (s .site)) (codes : c .codes ≡ allCodes (s .site)) where
+    -- they are cut as the site is
     same-site : callSite c ≡ s .site
     same-site = (λ i. siteOf (offsets i) (codes i)) ∙ site-back [] (s .site)
 
+    -- so as many pairs are met
     same-met : met inUse (callSite c) (c .k) ≡ met inUse (s .site) (s .k)
     same-met = λ i. met inUse (same-site i) (asked i)
 
+    -- and the checks say the same
     same-check : checked s ≡ tablesCheck (c .k) (c .offsets) (c .codes)
     same-check = λ i. tablesCheck (sym asked i) (sym offsets i) (sym codes i)
 
@@ -142,9 +145,11 @@ module _ {c : JoinCall} (j : Joins c) (rooms : Rooms c) where
     cause-joined n p (trail-room a h w t) =
         joined-over s (same-check ∙ fine-exactly (c .k) (c .offsets) (c .codes) .1 a) (omega (arith, t, rooms .trail, same-met))
 
+    -- a refusal of the join is told as one of the sheet
     stop-told : {n p : ℕ} → c .answer ≡ answer.Refused n p → SheetJoined (joined s) (c .list′) (told.Refused n p)
     stop-told {n} {p} q = told-refused (c .list′) (cause-joined n p (refused-cause j n p (refused-tells q)))
 
+    -- the counts of the join are those of the sheet
     counts-told : {f e m : ℕ} → c .answer ≡ answer.Listed f e m → SheetJoined (joined s) (c .list′) (told.Counts (c .k) f e m)
     counts-told q =
         let f = fine q in
@@ -157,6 +162,7 @@ module _ {c : JoinCall} (j : Joins c) (rooms : Rooms c) where
 
 module _ (k : ℕ) (os cs list work trail : List ℕ) (ll : length list ≡ listRoom) (lw : length work ≡ 10240) (lt : length trail ≡ 4096) {r : Answer} {l w t : List ℕ}
     (q : outcome r l w t ≡ joinOf k os cs list work trail) where
+  -- the call, and its rooms
   abbrev call : JoinCall
   call = record { k = k; offsets = os; codes = cs; list = list; work = work; trail = trail; answer = r; list′ = l; work′ = w; trail′ = t }
 

@@ -7,7 +7,7 @@ use lib.ListN.{length}
 use Rattle.site.specs.Measure.{inUse}
 use Rattle.site.specs.Site.{Site, sharing}
 use Rattle.site.specs.Events.{eventsOf, found, events, met}
-use Rattle.site.specs.Tables.{siteOf, offsetsOf, allCodes}
+use Rattle.site.specs.Tables.{offsetsOf, allCodes}
 use Rattle.site.proofs.Top.{top-length}
 use Rattle.words.proofs.Split.{by-le}
 use Rattle.tables.specs.Sound.{Sound}
@@ -18,7 +18,7 @@ use Rattle.tables.proofs.Cuts.{site-back}
 use Rattle.agenda.proofs.Counts.{events-many}
 use Rattle.sheet.specs.Read.{Read, value, refused, _then_}
 use Rattle.sheet.specs.Reading.{Sheet, readSheet}
-use Rattle.sheet.proofs.Lines.{then-value}
+use Rattle.sheet.proofs.Lines.{no-value, then-value}
 use Rattle.listing.specs.Listing.{joined}
 use Rattle.listing.specs.Answers.{countsOf, SheetJoined}
 use Rattle.listing.specs.declared.Joined.{Joined}
@@ -59,9 +59,7 @@ pub record Passed (s : Sheet) : Type 0 where
   pub sound : Sound (offsetsOf (s .site)) (allCodes (s .site))
   pub met : met inUse (s .site) (s .k) ≤ 2048
 
-no-value : {C : Type 0} {n p : ℕ} {x : Sheet} → _≡_ {A = Read Sheet} (refused n p) (value x) → C
-no-value e = let y : _≡_ {A = ℕ} 0 1 = cc e in absurd (omega arith)
-
+-- a sheet that is joined is unchanged, and it passed
 passed-by : (s : Sheet) (c : Check) → checked s ≡ c → {x : Sheet} → joined s ≡ value x → (s ≡ x) × Passed s
 passed-by s (check.Refused n p) t e = no-value (sym (joined-stops s t) ∙ e)
 passed-by s check.Fine t {x} e =
@@ -70,6 +68,7 @@ passed-by s check.Fine t {x} e =
     (λ h. let q : s ≡ x = cc (sym (joined-is s t h) ∙ e) in (q, record { asked = a .most; sound = a .sound; met = h }))
     (λ h. no-value (sym (joined-over s t h) ∙ e))
 
+-- so it is behind the reader
 pub joined-passed : (x : Read Sheet) {s : Sheet} → (x then joined) ≡ value s → Passed s
 joined-passed x e =
     let r = then-value x joined e in
@@ -77,14 +76,17 @@ joined-passed x e =
     subst Passed (p .0) (p .1)
 
 module _ {s : Sheet} (p : Passed s) where
+  -- its pairs fit the list
   pub found-few : found inUse (s .site) (s .k) ≤ 64
   found-few = omega (arith, p .asked, top-length inUse (s .site) (s .k) (sharing (s .site)))
 
+  -- its events are no more than its codes
   pub events-most : events inUse (s .site) (s .k) ≤ 4096
   events-most =
-      let b : length (eventsOf inUse (siteOf (offsetsOf (s .site)) (allCodes (s .site)))) ≡ length (eventsOf inUse (s .site)) = ap (λ (z : Site). length (eventsOf inUse z)) (site-back [] (s .site)) in
+      let b = ap (λ (z : Site). length (eventsOf inUse z)) (site-back [] (s .site)) in
       omega (arith, b, events-many (p .sound), p .sound .short, events-few (s .site) (s .k))
 
 -- where the join told counts, the list has room for its entries
-pub told-few : (sheet : List ℕ) {list : List ℕ} {j : Joined} → SheetJoined (readSheet 257 4096 sheet then joined) list j → {k f e m : ℕ} → j ≡ told.Counts k f e m → f ≤ 64
+pub told-few : (sheet : List ℕ) {list : List ℕ} {j : Joined} → SheetJoined (readSheet 257 4096 sheet then joined) list j
+    → {k f e m : ℕ} → j ≡ told.Counts k f e m → f ≤ 64
 told-few sheet t q = let c = counted _ (sym (t .answer) ∙ q) in omega (arith, c .found, found-few (joined-passed (readSheet 257 4096 sheet) (c .is)))

@@ -22,6 +22,7 @@ use Rattle.listing.specs.Listing.{linesText, listingText, joined, listed
 use Rattle.listing.specs.Answers.{listRoom, listingBy, bytesOf, SheetJoined, frontPen, Added, Put, PutText}
 use Rattle.listing.specs.Calls.{Lists}
 use Rattle.listing.proofs.Adding.{added-stop}
+use Rattle.listing.proofs.Telling.{by-text, by-refused}
 use Rattle.listing.proofs.Passing.{counts-refused, counted, joined-passed, found-few}
 use Rattle.listing.specs.declared.Listing.{Listing}
 use Rattle.listing.specs.declared.Listing.the-variants as listing
@@ -59,7 +60,8 @@ text-full cs w e = put-full (added-stop w cs e) e
 -- ---- what the join told
 
 -- the list that is held is read back
-entries-back : (s : Sheet) {f : ℕ} {list : List ℕ} → found inUse (s .site) (s .k) ≤ 64 → f ≡ found inUse (s .site) (s .k) → list ≡ padded listRoom (listedWords (s .k) (s .site))
+entries-back : (s : Sheet) {f : ℕ} {list : List ℕ} → found inUse (s .site) (s .k) ≤ 64
+    → f ≡ found inUse (s .site) (s .k) → list ≡ padded listRoom (listedWords (s .k) (s .site))
     → entries f list ≡ map (entryOf (s .site)) (listOf inUse (s .site) (s .k))
 entries-back s most e l =
     let es = map (entryOf (s .site)) (listOf inUse (s .site) (s .k)) in
@@ -75,6 +77,7 @@ module _ (sheet : List ℕ) (room : ℕ) where
   put-long h now = put-refused now (rw (lt-ltb 24576 (length sheet) h))
 
   module _ (h : length sheet ≤ 24576) {list : List ℕ} {j : Joined} (t : SheetJoined (readSheet 257 4096 sheet then joined) list j) where
+    -- the reader and the join go on
     listed-is : listed sheet ≡ (readSheet 257 4096 sheet then joined)
     unfolding listed
     listed-is = rw (le-ltb 24576 (length sheet) h)
@@ -91,27 +94,27 @@ module _ (sheet : List ℕ) (room : ℕ) where
     put-counts {k} {f} {e} {m} q {now} {r} w =
         let c = counted _ (sym (t .answer) ∙ q) in
         let s = c .sheet in
-        let b : entries f list ≡ map (entryOf (s .site)) (listOf inUse (s .site) (s .k)) = entries-back s (found-few (joined-passed (readSheet 257 4096 sheet) (c .is))) (c .found) (t .held s (c .is)) in
+        let b = entries-back s (found-few (joined-passed (readSheet 257 4096 sheet) (c .is))) (c .found) (t .held s (c .is)) in
         let x : linesText k f e m (entries f list) ≡ listingText (s .k) (s .site) = λ i. linesText (c .asked i) (c .found i) (c .events i) (c .met i) (b i) in
         rw (listed-is, c .is) (subst (λ (l : List ℕ). Put (fitted room l) now r) x w)
 
 -- ---- zeros behind it
 
--- the length of the text that an answer tells, and after a refusal none
+-- the length of the text that an answer tells
 text-length : (x : Read (List ℕ)) {n : ℕ} → listingBy x ≡ listing.Text n → n ≡ length (bytesOf x)
-unfolding listingBy bytesOf
-text-length (value t) {n} e = let a : length t ≡ n = cc e in sym a
-text-length (refused m q) e = let y : _≡_ {A = ℕ} 0 1 = cc e in absurd (omega arith)
+unfolding bytesOf
+text-length x e = let b = by-text x e in rw (b .1) (b .2)
 
+-- after a refusal there is none
 none-length : (x : Read (List ℕ)) {n p : ℕ} → listingBy x ≡ listing.Refused n p → 0 ≡ length (bytesOf x)
-unfolding listingBy bytesOf
-none-length (value t) e = let y : _≡_ {A = ℕ} 0 1 = cc e in absurd (omega arith)
-none-length (refused m q) e = refl
+unfolding bytesOf
+none-length x e = rw (by-refused x e)
 
 -- the text is within the lent text
 pub put-room : {x : Read (List ℕ)} {mid : List ℕ} {r : Listing} → Put x mid r → {n : ℕ} → r ≡ listing.Text n → n ≤ length mid
 put-room {x} {mid} w e = let l = text-length x (sym (w .answer) ∙ e) in omega (arith, front-fits (length (bytesOf x)) mid (bytesOf x) (w .front) refl)
 
+-- zeros behind the front
 zeroed : {x : Read (List ℕ)} {mid : List ℕ} {r : Listing} → Put x mid r → {room : ℕ} → length mid ≡ room → {n : ℕ} → n ≡ length (bytesOf x)
     → {now : List ℕ} → now ≡ zeroedFrom mid n → now ≡ padded room (bytesOf x)
 unfolding padded

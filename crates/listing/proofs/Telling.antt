@@ -15,9 +15,11 @@ use Rattle.listing.proofs.Refusals.{listing-numbered}
 
 -- ---- an answer
 
+-- a text tells 0 and its length
 pub text-tells : {r : Listing} {n : ℕ} → r ≡ listing.Text n → ListingTells r 0 (n ∷ [])
 text-tells e = (ap listingNumber e, ap listingValues e)
 
+-- a refusal tells its number and its place
 pub refused-tells : {r : Listing} {n p : ℕ} → r ≡ listing.Refused n p → ListingTells r n (p ∷ [])
 refused-tells e = (ap listingNumber e, ap listingValues e)
 
@@ -33,6 +35,7 @@ tells-text (listing.Refused m q) h t = absurd (h q (λ i. listing.Refused (t .0 
 
 -- ---- the answer for a reading
 
+-- it tells the reading's number and values
 pub by-tells : (x : Read (List ℕ)) {r : Listing} → r ≡ listingBy x → ListingTells r (readNumber x) (readValues lengthOnly x)
 unfolding listingBy
 by-tells (value text) e = text-tells e
@@ -44,7 +47,13 @@ unfolding listingBy
 by-refused (value text) e = let y : _≡_ {A = ℕ} 0 1 = cc e in absurd (omega arith)
 by-refused (refused m q) {n} {p} e = let a : m ≡ n = cc e in let b : q ≡ p = cc e in λ i. refused (a i) (b i)
 
--- and back, of a reading whose refusals have numbers above 0
+-- and a text one of its values
+pub by-text : (x : Read (List ℕ)) {n : ℕ} → listingBy x ≡ listing.Text n → (text : List ℕ) × (x ≡ value text) × (n ≡ length text)
+unfolding listingBy
+by-text (value text) {n} e = let a : length text ≡ n = cc e in (text, refl, sym a)
+by-text (refused m q) e = let y : _≡_ {A = ℕ} 0 1 = cc e in absurd (omega arith)
+
+-- what is told fixes the answer, for a reading whose refusals have numbers above 0
 pub tells-by : (x : Read (List ℕ)) → ((n p : ℕ) → x ≡ refused n p → 0 < n) → {r : Listing} → ((p : ℕ) → r ≡ listing.Refused 0 p → ⊥)
     → ListingTells r (readNumber x) (readValues lengthOnly x) → r ≡ listingBy x
 unfolding listingBy
@@ -62,9 +71,10 @@ module _ {sheet text text₂ : List ℕ} {r : Listing} (w : Lists sheet text r t
   pub lists-numbered : {n p : ℕ} → r ≡ listing.Refused n p → 0 < n
   lists-numbered e = listing-numbered (length text) sheet (by-refused (listingIn (length text) sheet) (sym (w .answer) ∙ e)) .some
 
-  -- so what it tells is its answer
+  -- so what it tells is its answer: 0 a text
   pub lists-text : {n : ℕ} → ListingTells r 0 (n ∷ []) → r ≡ listing.Text n
   lists-text t = tells-text r (λ p e. omega (arith, lists-numbered e)) t
 
+  -- and any other number a refusal
   pub lists-refused : {n p : ℕ} → 0 < n → ListingTells r n (p ∷ []) → r ≡ listing.Refused n p
   lists-refused h t = tells-refused r h t
