@@ -1,4 +1,6 @@
 -- the library's answer as the host's value
 pub mod Hosted
--- one answer only
+-- what the contract says, and one answer only
 pub mod Only
+-- the host call says what the library's call says
+pub mod Same

@@ -58,7 +58,7 @@ module _ (k : ℕ) (os cs : List ℕ) (list work : ℕ) where
           (λ h. at (sym (by-list f h) ∙ e) (list-room kept h))
 
   -- where the checks accept, nothing before 8 is a cause
-  fine-kept : callCheck k os cs list work ≡ check.Fine → (tablesCheck k os cs ≡ check.Fine) × (width * k ≤ list) × (10240 ≤ work)
+  pub fine-kept : callCheck k os cs list work ≡ check.Fine → (tablesCheck k os cs ≡ check.Fine) × (width * k ≤ list) × (10240 ≤ work)
   fine-kept e = go (tablesCheck k os cs) refl
     where
       other : {m q : ℕ} → callCheck k os cs list work ≡ check.Refused m q → ⊥

@@ -74,6 +74,7 @@ module _ {bs old now : List ℕ} {p q : Pen} (f : Fits p old) (w : Lined bs old 
 
 -- ---- a line an entry
 
+-- more entries are more lines
 pub entries-grow : Grows entriesText (λ i. entryText)
 unfolding entriesText flat
 entries-grow = record { none = refl; snoc = λ es e. flat-append entryText es (e ∷ []) ∙ ap (λ (t : List ℕ). entriesText es ++ t) (flat-one entryText e) }
@@ -98,9 +99,11 @@ pub record Rows (list : List ℕ) (n : ℕ) (old now : List ℕ) (p q : Pen) (i 
   pub long : length now ≡ length old
   pub grown : Grown entriesText (entries n list) old now p q i
 
+-- the lines grown so far, as an invariant
 rows : (list : List ℕ) (n : ℕ) {old now : List ℕ} {p q : Pen} {i : ℕ} → Grown entriesText (entries n list) old now p q i → Rows list n old now p q i
 rows list n g = record { within = omega (arith, g .within, length-entries list 0 n); fits = g .past .fits; long = g .past .long; grown = g }
 
+-- nothing is written yet
 pub rows-start : (list : List ℕ) (n : ℕ) {old : List ℕ} {p : Pen} → Fits p old → Rows list n old old p p 0
 rows-start list n f = rows list n (grown-start entries-grow (entries n list) f)
 
@@ -109,18 +112,23 @@ module _ {list : List ℕ} {n : ℕ} {old mid : List ℕ} {p q : Pen} {i : ℕ} 
     abbrev d : Entry
     d = entryAt list 0
 
+    -- the line that was written is the next entry's
     entry-lined : Lined (entryText (getD (entries n list) i d)) mid now q r
     entry-lined = subst (λ (t : List ℕ). Lined t mid now q r) (entry-line list n i d h room) w
 
+    -- there is a next entry
     inside : i < length (entries n list)
     inside = omega (arith, length-entries list 0 n)
 
+    -- one line more
     pub rows-next : (r .place ≡ q .place → ⊥) → Rows list n old now p r (i + 1)
     rows-next m = rows list n (grown-next entries-grow d f (g .grown) inside entry-lined m)
 
+    -- no room for it
     pub rows-full : length now ≡ length mid → r .place ≡ q .place → Added (entriesText (entries n list)) old now p Full
     unfolding entryText
     rows-full l e = added-none (l ∙ g .long) (grown-full entries-grow d f (g .grown) inside entry-lined (line-some pairKey (words (getD (entries n list) i d))) e)
 
+  -- no entry is left
   pub rows-end : n ≤ i → Added (entriesText (entries n list)) old mid p (On q)
   rows-end h = added-on (grown-end (g .grown) (omega (arith, length-entries list 0 n)))

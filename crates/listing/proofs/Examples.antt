@@ -42,6 +42,7 @@ record Case : Type 0 where
   told : Read (List ℕ)
   prints : List ℕ
 
+-- one of them
 case : List ℕ → ℕ → Read (List ℕ) → List ℕ → Case
 case s r t p = record { sheet = s; room = r; told = t; prints = p }
 
@@ -56,10 +57,12 @@ table =
     ∷ case more 2048 (refused 9 15) (114 ∷ 101 ∷ 102 ∷ 117 ∷ 115 ∷ 101 ∷ 100 ∷ 61 ∷ 57 ∷ 32 ∷ 49 ∷ 53 ∷ 10 ∷ [])  -- refused=9 15
     ∷ []
 
+-- each is listed or refused as it should be
 listings : map (λ c. listingIn (c .room) (c .sheet)) table ≡ map (λ c. c .told) table
 unfolding three threeListing twice more case table lineText entryText entriesText countsText listingText refusedText joined listed listingOf fitted listingIn printed behind codesRead contextOf line nothing linesOf readSheet codesText onFirst split digitsF digitsOf valueFrom digitRun mostDigits digitsIn numberOf sizesCheck tablesCheck earliest firstOf offsetRule endRule codeRule codeRuleBy member flat offsetsFrom allCodes jaccard _over_ below lesser reaches keep kth sortBy insertBy _thenBy_ has upTo grid common shared union pairsOf sharing numbersBefore rankBefore ranked topOf ahead eventsIn eventBefore eventsOf later earlier ceilingOf trailBefore cutOf eventsReaching pairsReaching trail
 listings = refl
 
+-- and what is printed of it
 lines : map (λ c. printed (c .told)) table ≡ map (λ c. c .prints) table
 unfolding three threeListing twice more case table lineText refusedText printed codesText digitsF digitsOf
 lines = refl

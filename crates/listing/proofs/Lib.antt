@@ -14,7 +14,9 @@ pub mod Putting
 pub mod Short
 -- the numbers and places of refusals
 pub mod Refusals
+-- what an answer tells by number and values
+pub mod Telling
 -- what the program prints
 pub mod Printing
--- one answer only
+-- what the contracts say, and one answer only
 pub mod Only

@@ -1,12 +1,38 @@
--- One answer only: two results that meet a call's contract are equal, and so are the texts that they leave.
+-- The contracts of the two calls say `Lists` and `Prints`, and each has one answer only: result and text at exit.
+-- `Post` is the contract itself, as it is read from the code.
 use mathlib.Core.List.{List}
-use mathlib.Core.Path.{_≡_, sym, _∙_}
+use mathlib.Core.Path.{sym, _∙_}
 use Prim.Native.Nat.{ℕ}
+use lib.ListN.{length}
+use Rattle.words.proofs.OneAnswer.{Says, OneAnswer}
+use Rattle.sheet.specs.Read.{readNumber, readValues}
+use Rattle.listing.specs.Listing.{listingIn}
+use Rattle.listing.specs.Answers.{ListingTells, lengthOnly}
 use Rattle.listing.specs.Calls.{Lists, Prints}
 use Rattle.listing.specs.declared.Listing.{Listing}
+use Rattle.listing.proofs.Telling.{lists-told}
+use Rattle.listing.proofs.list_sheet.Kinds as list-sheet-kinds
+use Rattle.listing.proofs.list_sheet.Reads as list-sheet
+use Rattle.listing.proofs.print_sheet.Kinds as print-sheet-kinds
+use Rattle.listing.proofs.print_sheet.Reads as print-sheet
 
-pub list-sheet-only : {sheet text : List ℕ} {r s : Listing} {t u : List ℕ} → Lists sheet text r t → Lists sheet text s u → (r ≡ s) × (t ≡ u)
-list-sheet-only a b = (a .answer ∙ sym (b .answer), a .text-is ∙ sym (b .text-is))
+-- `list_sheet`: what it says
+pub list-sheet-says : Says 2 list-sheet-kinds.ps list-sheet-kinds.r list-sheet.Post (λ κs a u x. Lists (a .0 .now) (a .1 .0 .now) u (x .1 .0 .now))
+list-sheet-says κs a u x p = p
 
-pub print-sheet-only : {sheet : List ℕ} {n m : ℕ} {t u : List ℕ} → Prints sheet n t → Prints sheet m u → (n ≡ m) × (t ≡ u)
-print-sheet-only a b = (a .length-is ∙ sym (b .length-is), a .text-is ∙ sym (b .text-is))
+-- by number and values: 0 and the text's length, or number and place of the refusal
+pub list-sheet-tells : Says 2 list-sheet-kinds.ps list-sheet-kinds.r list-sheet.Post
+    (λ κs a u x. let reading = listingIn (length (a .1 .0 .now)) (a .0 .now) in ListingTells u (readNumber reading) (readValues lengthOnly reading))
+list-sheet-tells κs a u x p = lists-told p
+
+-- one answer, and one text
+pub list-sheet-only : OneAnswer 2 list-sheet-kinds.ps list-sheet-kinds.r list-sheet.Post {B = Listing × List ℕ} (λ κs u x. (u, x .1 .0 .now))
+list-sheet-only κs a u v x y p q = λ i. ((p .answer ∙ sym (q .answer)) i, (p .text-is ∙ sym (q .text-is)) i)
+
+-- `print_sheet`: what it says
+pub print-sheet-says : Says 2 print-sheet-kinds.ps print-sheet-kinds.r print-sheet.Post (λ κs a u x. Prints (a .0 .now) u (x .1 .0 .now))
+print-sheet-says κs a u x p = p
+
+-- one length, and one text
+pub print-sheet-only : OneAnswer 2 print-sheet-kinds.ps print-sheet-kinds.r print-sheet.Post {B = ℕ × List ℕ} (λ κs u x. (u, x .1 .0 .now))
+print-sheet-only κs a u v x y p q = λ i. ((p .length-is ∙ sym (q .length-is)) i, (p .text-is ∙ sym (q .text-is)) i)

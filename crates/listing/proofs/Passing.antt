@@ -1,28 +1,29 @@
 -- What a sheet has that passed all refusals but the last: sound tables, and counts that fit a word of a line.
-use mathlib.Core.List.{List}
+use mathlib.Core.List.{List, []}
 use mathlib.Core.Path.{_≡_, refl, sym, ap, subst, _∙_}
 use Prim.Native.Nat.{ℕ, _≤_}
 use native.Mathlib.Omega.{arith}
 use lib.ListN.{length}
 use Rattle.site.specs.Measure.{inUse}
-use Rattle.site.specs.Site.{Site, listOf, sharing}
-use Rattle.site.specs.Events.{eventsOf, eventsDone, trail}
-use Rattle.site.specs.Tables.{siteOf, offsetsOf, allCodes}
+use Rattle.site.specs.Site.{Site, sharing}
+use Rattle.site.specs.Events.{eventsOf, found, events, met}
+use Rattle.site.specs.Tables.{offsetsOf, allCodes}
 use Rattle.site.proofs.Top.{top-length}
 use Rattle.words.proofs.Split.{by-le}
 use Rattle.tables.specs.Sound.{Sound}
 use Rattle.tables.specs.declared.Check.{Check}
 use Rattle.tables.specs.declared.Check.the-variants as check
 use Rattle.tables.proofs.Checks.{accepted}
+use Rattle.tables.proofs.Cuts.{site-back}
 use Rattle.agenda.proofs.Counts.{events-many}
 use Rattle.sheet.specs.Read.{Read, value, refused, _then_}
 use Rattle.sheet.specs.Reading.{Sheet, readSheet}
-use Rattle.sheet.proofs.Lines.{then-value}
+use Rattle.sheet.proofs.Lines.{no-value, then-value}
 use Rattle.listing.specs.Listing.{joined}
 use Rattle.listing.specs.Answers.{countsOf, SheetJoined}
 use Rattle.listing.specs.declared.Joined.{Joined}
 use Rattle.listing.specs.declared.Joined.the-variants as told
-use Rattle.listing.proofs.Joining.{checked, joined-stops, joined-over, joined-is, tables-back, events-few}
+use Rattle.listing.proofs.Joining.{checked, joined-stops, joined-over, joined-is, events-few}
 
 -- ---- the counts that were told
 
@@ -37,18 +38,18 @@ pub record CountsOf (x : Read Sheet) (k f e m : ℕ) : Type 0 where
   pub sheet : Sheet
   pub is : x ≡ value sheet
   pub asked : k ≡ sheet .k
-  pub found : f ≡ length (listOf inUse (sheet .site) (sheet .k))
-  pub events : e ≡ length (eventsDone inUse (sheet .site) (sheet .k))
-  pub met : m ≡ length (trail inUse (sheet .site) (sheet .k))
+  pub found : f ≡ found inUse (sheet .site) (sheet .k)
+  pub events : e ≡ events inUse (sheet .site) (sheet .k)
+  pub met : m ≡ met inUse (sheet .site) (sheet .k)
 
 pub counted : (x : Read Sheet) {k f e m : ℕ} → countsOf x ≡ told.Counts k f e m → CountsOf x k f e m
 unfolding countsOf
 counted (refused m q) g = let y : _≡_ {A = ℕ} 0 1 = cc g in absurd (omega arith)
 counted (value s) {k} {f} {e} {m} g =
     let a : s .k ≡ k = cc g in
-    let b : length (listOf inUse (s .site) (s .k)) ≡ f = cc g in
-    let c : length (eventsDone inUse (s .site) (s .k)) ≡ e = cc g in
-    let d : length (trail inUse (s .site) (s .k)) ≡ m = cc g in
+    let b : found inUse (s .site) (s .k) ≡ f = cc g in
+    let c : events inUse (s .site) (s .k) ≡ e = cc g in
+    let d : met inUse (s .site) (s .k) ≡ m = cc g in
     record { sheet = s; is = refl; asked = sym a; found = sym b; events = sym c; met = sym d }
 
 -- ---- a sheet that passed
@@ -56,19 +57,18 @@ counted (value s) {k} {f} {e} {m} g =
 pub record Passed (s : Sheet) : Type 0 where
   pub asked : s .k ≤ 64
   pub sound : Sound (offsetsOf (s .site)) (allCodes (s .site))
-  pub met : length (trail inUse (s .site) (s .k)) ≤ 2048
+  pub met : met inUse (s .site) (s .k) ≤ 2048
 
-no-value : {C : Type 0} {n p : ℕ} {x : Sheet} → _≡_ {A = Read Sheet} (refused n p) (value x) → C
-no-value e = let y : _≡_ {A = ℕ} 0 1 = cc e in absurd (omega arith)
-
+-- a sheet that is joined is unchanged, and it passed
 passed-by : (s : Sheet) (c : Check) → checked s ≡ c → {x : Sheet} → joined s ≡ value x → (s ≡ x) × Passed s
 passed-by s (check.Refused n p) t e = no-value (sym (joined-stops s t) ∙ e)
 passed-by s check.Fine t {x} e =
     let a = accepted (s .k) (offsetsOf (s .site)) (allCodes (s .site)) t in
-    by-le (length (trail inUse (s .site) (s .k))) 2048
+    by-le (met inUse (s .site) (s .k)) 2048
     (λ h. let q : s ≡ x = cc (sym (joined-is s t h) ∙ e) in (q, record { asked = a .most; sound = a .sound; met = h }))
     (λ h. no-value (sym (joined-over s t h) ∙ e))
 
+-- so it is behind the reader
 pub joined-passed : (x : Read Sheet) {s : Sheet} → (x then joined) ≡ value s → Passed s
 joined-passed x e =
     let r = then-value x joined e in
@@ -76,14 +76,17 @@ joined-passed x e =
     subst Passed (p .0) (p .1)
 
 module _ {s : Sheet} (p : Passed s) where
-  pub found-few : length (listOf inUse (s .site) (s .k)) ≤ 64
+  -- its pairs fit the list
+  pub found-few : found inUse (s .site) (s .k) ≤ 64
   found-few = omega (arith, p .asked, top-length inUse (s .site) (s .k) (sharing (s .site)))
 
-  pub events-most : length (eventsDone inUse (s .site) (s .k)) ≤ 4096
+  -- its events are no more than its codes
+  pub events-most : events inUse (s .site) (s .k) ≤ 4096
   events-most =
-      let b : length (eventsOf inUse (siteOf (offsetsOf (s .site)) (allCodes (s .site)))) ≡ length (eventsOf inUse (s .site)) = ap (λ (z : Site). length (eventsOf inUse z)) (tables-back (s .site)) in
+      let b = ap (λ (z : Site). length (eventsOf inUse z)) (site-back [] (s .site)) in
       omega (arith, b, events-many (p .sound), p .sound .short, events-few (s .site) (s .k))
 
 -- where the join told counts, the list has room for its entries
-pub told-few : (sheet : List ℕ) {list : List ℕ} {j : Joined} → SheetJoined (readSheet 257 4096 sheet then joined) list j → {k f e m : ℕ} → j ≡ told.Counts k f e m → f ≤ 64
+pub told-few : (sheet : List ℕ) {list : List ℕ} {j : Joined} → SheetJoined (readSheet 257 4096 sheet then joined) list j
+    → {k f e m : ℕ} → j ≡ told.Counts k f e m → f ≤ 64
 told-few sheet t q = let c = counted _ (sym (t .answer) ∙ q) in omega (arith, c .found, found-few (joined-passed (readSheet 257 4096 sheet) (c .is)))

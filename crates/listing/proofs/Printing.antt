@@ -14,15 +14,17 @@ use Rattle.pen.specs.declared.Pen.{Pen}
 use Rattle.pen.specs.Lines.{Lined}
 use Rattle.pen.proofs.Past.{line-moved}
 use Rattle.listing.specs.Listing.{refusedKey, refusedText, listingOf, fitted, listingIn, printed}
-use Rattle.listing.specs.Answers.{answerOf, bytesOf}
+use Rattle.listing.specs.Answers.{listingBy, bytesOf}
 use Rattle.listing.specs.Calls.{Lists, pageRoom, Prints}
 use Rattle.listing.specs.declared.Listing.{Listing}
 use Rattle.listing.specs.declared.Listing.the-variants as listing
 use Rattle.listing.proofs.Short.{line-short, listing-short}
 use Rattle.listing.proofs.Refusals.{SmallRefusal, refusal-small}
+use Rattle.listing.proofs.Telling.{by-text, by-refused}
 
 -- ---- every listing fits
 
+-- what fits is not refused
 whole-by : (room : ℕ) (x : Read (List ℕ)) → ((text : List ℕ) → x ≡ value text → length text ≤ room) → (x then fitted room) ≡ x
 unfolding fitted
 whole-by room (value text) h = rw (le-ltb room (length text) (h text refl))
@@ -35,30 +37,28 @@ listing-fits room sheet h = whole-by room (listingOf sheet) (λ text e. omega (a
 
 -- ---- what the answer tells
 
-answer-refused : (x : Read (List ℕ)) {n p : ℕ} → answerOf x ≡ listing.Refused n p → x ≡ refused n p
-unfolding answerOf
-answer-refused (value t) e = let y : _≡_ {A = ℕ} 0 1 = cc e in absurd (omega arith)
-answer-refused (refused m q) {n} {p} e = let a : m ≡ n = cc e in let b : q ≡ p = cc e in λ i. refused (a i) (b i)
-
 -- the text of an answer that lists
-answer-text : (x : Read (List ℕ)) {n : ℕ} → answerOf x ≡ listing.Text n → (n ≡ length (printed x)) × (bytesOf x ≡ printed x)
-unfolding answerOf bytesOf printed
-answer-text (value t) {n} e = let a : length t ≡ n = cc e in (sym a, refl)
-answer-text (refused m q) e = let y : _≡_ {A = ℕ} 0 1 = cc e in absurd (omega arith)
+answer-text : (x : Read (List ℕ)) {n : ℕ} → listingBy x ≡ listing.Text n → (n ≡ length (printed x)) × (bytesOf x ≡ printed x)
+unfolding bytesOf printed
+answer-text x e = let b = by-text x e in rw (b .1) (b .2, refl)
 
 module _ {sheet text text₂ : List ℕ} {r : Listing} (w : Lists sheet text r text₂) (l : length text ≡ pageRoom) where
+  -- in the program's text
   whole : listingIn (length text) sheet ≡ listingOf sheet
   whole = listing-fits (length text) sheet (omega arith)
 
+  -- the listing is printed
   pub prints-listing : {n : ℕ} → r ≡ listing.Text n → Prints sheet n text₂
   prints-listing e =
       let a = answer-text (listingOf sheet) (sym (rw whole at (w .answer)) ∙ e) in
       record { length-is = a .0; text-is = w .text-is ∙ λ i. padded (l i) ((ap bytesOf whole ∙ a .1) i) }
 
   module _ {n p : ℕ} (e : r ≡ listing.Refused n p) where
+    -- the listing itself is refused
     stopped : listingOf sheet ≡ refused n p
-    stopped = answer-refused (listingOf sheet) (sym (rw whole at (w .answer)) ∙ e)
+    stopped = by-refused (listingOf sheet) (sym (rw whole at (w .answer)) ∙ e)
 
+    -- number and place fit the words of a line
     pub refusal-fits : SmallRefusal n p
     refusal-fits = refusal-small sheet stopped
 
@@ -67,6 +67,7 @@ module _ {sheet text text₂ : List ℕ} {r : Listing} (w : Lists sheet text r t
     unfolding bytesOf
     refusal-zero = w .text-is ∙ λ i. padded (l i) (ap bytesOf (whole ∙ stopped) i)
 
+    -- the line of the refusal is printed
     pub prints-refusal : {q : ℕ} {now : List ℕ} → (q ≡ length (refusedText n p)) × (now ≡ padded pageRoom (refusedText n p)) → Prints sheet q now
     unfolding printed
     prints-refusal o = let s : printed (listingOf sheet) ≡ refusedText n p = rw stopped in record { length-is = o .0 ∙ ap length (sym s); text-is = o .1 ∙ ap (padded pageRoom) (sym s) }
@@ -74,6 +75,7 @@ module _ {sheet text text₂ : List ℕ} {r : Listing} (w : Lists sheet text r t
 -- ---- the line of a refusal
 
 module _ (room : ℕ) {text now : List ℕ} (z : text ≡ padded room []) {bs : List ℕ} (h : length bs ≤ room) {q : Pen} (w : Lined bs text now (record { place = 0; room = room }) q) where
+  -- a line that has room stands in a text of zeros
   pub line-written : (q .place ≡ length bs) × (now ≡ padded room bs)
   unfolding padded
   line-written =
@@ -93,11 +95,13 @@ refused-short n p h k = omega (arith, line-short refusedKey (n ∷ p ∷ []) (h,
 
 -- ---- what is printed always fits
 
+-- for each reading
 short-by : (sheet : List ℕ) (x : Read (List ℕ)) → listingOf sheet ≡ x → length (printed x) ≤ pageRoom
 unfolding printed
 short-by sheet (value text) e = listing-short sheet e
 short-by sheet (refused n p) e = let s = refusal-small sheet e in refused-short n p (omega (arith, s .number)) (omega (arith, s .place))
 
+-- whatever the sheet is
 pub printed-short : (sheet : List ℕ) → length (printed (listingOf sheet)) ≤ pageRoom
 printed-short sheet = short-by sheet _ refl
 

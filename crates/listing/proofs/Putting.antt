@@ -8,18 +8,21 @@ use lib.ListN.{length, take, replicate, length-map}
 use borrow.Author.Tests.{lt-ltb, le-ltb}
 use Rattle.site.specs.Measure.{inUse}
 use Rattle.site.specs.Site.{listOf}
-use Rattle.words.specs.Words.{flat, padded}
+use Rattle.site.specs.Events.{found}
+use Rattle.words.specs.Words.{flat, padded, zeroedFrom}
 use Rattle.entries.specs.Entries.{words, entryOf, entries}
-use Rattle.entries.specs.Listed.{entryWords}
 use Rattle.entries.proofs.Reading.{flat-width, entries-held}
 use Rattle.words.proofs.Words.{held}
+use Rattle.search.specs.Outcome.{listedWords}
 use Rattle.pen.specs.declared.Pen.{Pen}
 use Rattle.sheet.specs.Read.{Read, value, refused, _then_}
 use Rattle.sheet.specs.Reading.{Sheet, readSheet}
 use Rattle.sheet.proofs.Tables.{front-fits}
-use Rattle.listing.specs.Listing.{countsText, entriesText, listingText, joined, listed, listingOf, fitted, listingIn}
-use Rattle.listing.specs.Answers.{listRoom, answerOf, bytesOf, SheetJoined, Added, Put}
+use Rattle.listing.specs.Listing.{linesText, listingText, joined, listed, listingOf, fitted, listingIn}
+use Rattle.listing.specs.Answers.{listRoom, listingBy, bytesOf, SheetJoined, frontPen, Added, Put, PutText}
+use Rattle.listing.specs.Calls.{Lists}
 use Rattle.listing.proofs.Adding.{added-stop}
+use Rattle.listing.proofs.Telling.{by-text, by-refused}
 use Rattle.listing.proofs.Passing.{counts-refused, counted, joined-passed, found-few}
 use Rattle.listing.specs.declared.Listing.{Listing}
 use Rattle.listing.specs.declared.Listing.the-variants as listing
@@ -28,24 +31,22 @@ use Rattle.listing.specs.declared.Joined.the-variants as told
 use Rattle.listing.specs.declared.Penned.{Penned}
 use Rattle.listing.specs.declared.Penned.the-variants.{On, Full}
 
--- a pen at the front of a text
-abbrev pub front : List ℕ → Pen
-front text = record { place = 0; room = length text }
-
 -- ---- the two ways of a text
 
+-- a refusal
 put-refused : {x : Read (List ℕ)} {n p : ℕ} (now : List ℕ) → x ≡ refused n p → Put x now (listing.Refused n p)
-unfolding answerOf bytesOf
+unfolding listingBy bytesOf
 put-refused now e = record { answer = rw e; front = rw e }
 
-module _ {bs old now : List ℕ} {r : Penned} (w : Added bs old now (front old) r) where
+module _ {bs old now : List ℕ} {r : Penned} (w : Added bs old now (frontPen old) r) where
   -- 12
-  pub put-full : r ≡ Full → Put (fitted (length old) bs) now (listing.Refused 12 0)
+  pub put-full : r ≡ Full → PutText bs old now (listing.Refused 12 0)
   unfolding fitted
   put-full e = put-refused now (rw (lt-ltb (length old) (length bs) (w .full e)))
 
-  pub put-text : {q : Pen} → r ≡ On q → Put (fitted (length old) bs) now (listing.Text (q .place))
-  unfolding fitted answerOf bytesOf
+  -- the text
+  pub put-text : {q : Pen} → r ≡ On q → PutText bs old now (listing.Text (q .place))
+  unfolding fitted listingBy bytesOf
   put-text {q} e =
       let h = w .on q e in
       let p : q .place ≡ length bs = h .place ∙ zero-add (length bs) in
@@ -53,13 +54,14 @@ module _ {bs old now : List ℕ} {r : Penned} (w : Added bs old now (front old) 
       record { answer = rw (x, p); front = rw x (ap (λ (n : ℕ). take n now) (sym p) ∙ h .front) }
 
 -- nothing more fits
-pub text-full : {bs old now : List ℕ} {r : Penned} (cs : List ℕ) → Added bs old now (front old) r → r ≡ Full → Put (fitted (length old) (bs ++ cs)) now (listing.Refused 12 0)
+pub text-full : {bs old now : List ℕ} {r : Penned} (cs : List ℕ) → Added bs old now (frontPen old) r → r ≡ Full → PutText (bs ++ cs) old now (listing.Refused 12 0)
 text-full cs w e = put-full (added-stop w cs e) e
 
 -- ---- what the join told
 
 -- the list that is held is read back
-entries-back : (s : Sheet) {f : ℕ} {list : List ℕ} → length (listOf inUse (s .site) (s .k)) ≤ 64 → f ≡ length (listOf inUse (s .site) (s .k)) → list ≡ padded listRoom (entryWords (s .site) (listOf inUse (s .site) (s .k)))
+entries-back : (s : Sheet) {f : ℕ} {list : List ℕ} → found inUse (s .site) (s .k) ≤ 64
+    → f ≡ found inUse (s .site) (s .k) → list ≡ padded listRoom (listedWords (s .k) (s .site))
     → entries f list ≡ map (entryOf (s .site)) (listOf inUse (s .site) (s .k))
 entries-back s most e l =
     let es = map (entryOf (s .site)) (listOf inUse (s .site) (s .k)) in
@@ -75,6 +77,7 @@ module _ (sheet : List ℕ) (room : ℕ) where
   put-long h now = put-refused now (rw (lt-ltb 24576 (length sheet) h))
 
   module _ (h : length sheet ≤ 24576) {list : List ℕ} {j : Joined} (t : SheetJoined (readSheet 257 4096 sheet then joined) list j) where
+    -- the reader and the join go on
     listed-is : listed sheet ≡ (readSheet 257 4096 sheet then joined)
     unfolding listed
     listed-is = rw (le-ltb 24576 (length sheet) h)
@@ -84,39 +87,44 @@ module _ (sheet : List ℕ) (room : ℕ) where
     unfolding listingIn listingOf
     put-told e now = put-refused now (rw (listed-is, counts-refused _ (sym (t .answer) ∙ e)))
 
+    -- what the counts and the entries are written for
     pub put-counts : {k f e m : ℕ} → j ≡ told.Counts k f e m → {now : List ℕ} {r : Listing}
-        → Put (fitted room (countsText k f e m ++ entriesText (entries f list))) now r → Put (listingIn room sheet) now r
+        → Put (fitted room (linesText k f e m (entries f list))) now r → Put (listingIn room sheet) now r
     unfolding listingIn listingOf listingText
     put-counts {k} {f} {e} {m} q {now} {r} w =
         let c = counted _ (sym (t .answer) ∙ q) in
         let s = c .sheet in
-        let b : entries f list ≡ map (entryOf (s .site)) (listOf inUse (s .site) (s .k)) = entries-back s (found-few (joined-passed (readSheet 257 4096 sheet) (c .is))) (c .found) (t .held s (c .is)) in
-        let x : countsText k f e m ++ entriesText (entries f list) ≡ listingText (s .k) (s .site) = λ i. countsText (c .asked i) (c .found i) (c .events i) (c .met i) ++ entriesText (b i) in
+        let b = entries-back s (found-few (joined-passed (readSheet 257 4096 sheet) (c .is))) (c .found) (t .held s (c .is)) in
+        let x : linesText k f e m (entries f list) ≡ listingText (s .k) (s .site) = λ i. linesText (c .asked i) (c .found i) (c .events i) (c .met i) (b i) in
         rw (listed-is, c .is) (subst (λ (l : List ℕ). Put (fitted room l) now r) x w)
 
 -- ---- zeros behind it
 
-text-length : (x : Read (List ℕ)) {n : ℕ} → answerOf x ≡ listing.Text n → n ≡ length (bytesOf x)
-unfolding answerOf bytesOf
-text-length (value t) {n} e = let a : length t ≡ n = cc e in sym a
-text-length (refused m q) e = let y : _≡_ {A = ℕ} 0 1 = cc e in absurd (omega arith)
+-- the length of the text that an answer tells
+text-length : (x : Read (List ℕ)) {n : ℕ} → listingBy x ≡ listing.Text n → n ≡ length (bytesOf x)
+unfolding bytesOf
+text-length x e = let b = by-text x e in rw (b .1) (b .2)
 
-none-length : (x : Read (List ℕ)) {n p : ℕ} → answerOf x ≡ listing.Refused n p → 0 ≡ length (bytesOf x)
-unfolding answerOf bytesOf
-none-length (value t) e = let y : _≡_ {A = ℕ} 0 1 = cc e in absurd (omega arith)
-none-length (refused m q) e = refl
+-- after a refusal there is none
+none-length : (x : Read (List ℕ)) {n p : ℕ} → listingBy x ≡ listing.Refused n p → 0 ≡ length (bytesOf x)
+unfolding bytesOf
+none-length x e = rw (by-refused x e)
 
 -- the text is within the lent text
 pub put-room : {x : Read (List ℕ)} {mid : List ℕ} {r : Listing} → Put x mid r → {n : ℕ} → r ≡ listing.Text n → n ≤ length mid
 put-room {x} {mid} w e = let l = text-length x (sym (w .answer) ∙ e) in omega (arith, front-fits (length (bytesOf x)) mid (bytesOf x) (w .front) refl)
 
-module _ {x : Read (List ℕ)} {mid : List ℕ} {r : Listing} (w : Put x mid r) (room : ℕ) (l : length mid ≡ room) {now : List ℕ} where
-  zeroed : {n : ℕ} → n ≡ length (bytesOf x) → now ≡ take n mid ++ replicate (length mid - n) 0 → now ≡ padded room (bytesOf x)
-  unfolding padded
-  zeroed {n} e o = o ∙ ap₂ _++_ (ap (λ (j : ℕ). take j mid) e ∙ w .front) (λ i. replicate (l i - e i) 0)
+-- zeros behind the front
+zeroed : {x : Read (List ℕ)} {mid : List ℕ} {r : Listing} → Put x mid r → {room : ℕ} → length mid ≡ room → {n : ℕ} → n ≡ length (bytesOf x)
+    → {now : List ℕ} → now ≡ zeroedFrom mid n → now ≡ padded room (bytesOf x)
+unfolding padded
+zeroed {mid = mid} w l e o = o ∙ ap₂ _++_ (ap (λ (j : ℕ). take j mid) e ∙ w .front) (λ i. replicate (l i - e i) 0)
 
-  pub listing-done : {n : ℕ} → r ≡ listing.Text n → now ≡ take n mid ++ replicate (length mid - n) 0 → (listing.Text n ≡ answerOf x) × (now ≡ padded room (bytesOf x))
-  listing-done e o = (sym e ∙ w .answer, zeroed (text-length x (sym (w .answer) ∙ e)) o)
+module _ {sheet text mid now : List ℕ} {r : Listing} (w : Put (listingIn (length text) sheet) mid r) (l : length mid ≡ length text) where
+  -- behind a text
+  pub listing-done : {n : ℕ} → r ≡ listing.Text n → now ≡ zeroedFrom mid n → Lists sheet text (listing.Text n) now
+  listing-done e o = record { answer = sym e ∙ w .answer; text-is = zeroed w l (text-length _ (sym (w .answer) ∙ e)) o }
 
-  pub listing-refused : {n p : ℕ} → r ≡ listing.Refused n p → now ≡ take 0 mid ++ replicate (length mid - 0) 0 → (r ≡ answerOf x) × (now ≡ padded room (bytesOf x))
-  listing-refused e o = (w .answer, zeroed (none-length x (sym (w .answer) ∙ e)) o)
+  -- everywhere after a refusal
+  pub listing-refused : {n p : ℕ} → r ≡ listing.Refused n p → now ≡ zeroedFrom mid 0 → Lists sheet text r now
+  listing-refused e o = record { answer = w .answer; text-is = zeroed w l (none-length _ (sym (w .answer) ∙ e)) o }

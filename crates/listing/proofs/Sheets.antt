@@ -49,10 +49,12 @@ read-sheet (value s) {k} {c} {n} e =
     record { sheet = s; is = refl; asked = sym a; contexts = sym b; codes = sym d }
 
 module _ (sheet : List ℕ) {r : Reading} (e : r ≡ answerOf (readSheet 257 4096 sheet)) where
+  -- what the reader refuses is told
   pub sheet-refused : {n p : ℕ} (list : List ℕ) → r ≡ reading.Refused n p → SheetJoined (readSheet 257 4096 sheet then joined) list (told.Refused n p)
   sheet-refused list f = told-refused list (rw (read-refused (readSheet 257 4096 sheet) (sym e ∙ f)))
 
   module _ {k c n : ℕ} (f : r ≡ reading.Sheet k c n) where
+    -- the sheet that was read
     sheeted : Sheeted (readSheet 257 4096 sheet) k c n
     sheeted = read-sheet (readSheet 257 4096 sheet) (sym e ∙ f)
 

@@ -5,12 +5,13 @@ use Prim.Native.Nat.{ℕ}
 use lib.ListN.{length}
 use Rattle.words.specs.Words.{padded}
 use Rattle.listing.specs.Listing.{listingOf, listingIn, printed}
-use Rattle.listing.specs.Answers.{answerOf, bytesOf}
+use Rattle.listing.specs.Answers.{listingBy, bytesOf}
 use Rattle.listing.specs.declared.Listing.{Listing}
 
--- `list_sheet` of a sheet into a lent text: the answer, and the text afterwards, with zeros behind the listing
+-- `list_sheet` of a sheet into a lent text: the answer, and the text afterwards, with zeros behind the listing.
+-- The answer is given whole, since a text and a refusal have one value each; `lists-told` (proofs/Telling.antt) gives its number and value.
 pub record Lists (sheet text : List ℕ) (r : Listing) (text₂ : List ℕ) : Type 0 where
-  pub answer : r ≡ answerOf (listingIn (length text) sheet)
+  pub answer : r ≡ listingBy (listingIn (length text) sheet)
   pub text-is : text₂ ≡ padded (length text) (bytesOf (listingIn (length text) sheet))
 
 -- the bytes of the program's text

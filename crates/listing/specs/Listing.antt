@@ -6,7 +6,7 @@ use lib.Dec.{ltb}
 use lib.ListN.{length}
 use Rattle.site.specs.Measure.{inUse}
 use Rattle.site.specs.Site.{Site, listOf}
-use Rattle.site.specs.Events.{eventsDone, trail}
+use Rattle.site.specs.Events.{found, events, met}
 use Rattle.site.specs.Tables.{offsetsOf, allCodes}
 use Rattle.words.specs.Words.{flat}
 use Rattle.tables.specs.Checks.{tablesCheck}
@@ -52,13 +52,16 @@ entriesText es = flat entryText es
 
 -- k as asked for, and the three counts
 unfoldable pub countsText : ℕ → ℕ → ℕ → ℕ → List ℕ
-countsText k found events met = lineText kKey (k ∷ []) ++ lineText foundKey (found ∷ []) ++ lineText eventsKey (events ∷ []) ++ lineText metKey (met ∷ [])
+countsText k f e m = lineText kKey (k ∷ []) ++ lineText foundKey (f ∷ []) ++ lineText eventsKey (e ∷ []) ++ lineText metKey (m ∷ [])
 
 -- k, the three counts, and one line an entry
+abbrev pub linesText : ℕ → ℕ → ℕ → ℕ → List Entry → List ℕ
+linesText k f e m entries = countsText k f e m ++ entriesText entries
+
+-- those of a site: found, events and met, and the entries of its list
 unfoldable pub listingText : ℕ → Site → List ℕ
 listingText k site =
-    countsText k (length (listOf inUse site k)) (length (eventsDone inUse site k)) (length (trail inUse site k))
-    ++ entriesText (map (entryOf site) (listOf inUse site k))
+    linesText k (found inUse site k) (events inUse site k) (met inUse site k) (map (entryOf site) (listOf inUse site k))
 
 -- the one line of a refusal: number and place
 unfoldable pub refusedText : ℕ → ℕ → List ℕ
@@ -71,11 +74,11 @@ abbrev pub passed : {A : Type 0} → Check → Read A → Read A
 passed Fine next = next
 passed (Refused n p) next = refused n p
 
--- a sheet that was read: the join's refusals 1 to 5 on its tables, then 8 where the trail has over 2,048 pairs
+-- a sheet that was read: the join's refusals 1 to 5 on its tables, then 8 where over 2,048 pairs are met
 unfoldable pub joined : Sheet → Read Sheet
 joined s =
     passed (tablesCheck (s .k) (offsetsOf (s .site)) (allCodes (s .site)))
-    (cond (ltb 2048 (length (trail inUse (s .site) (s .k)))) (refused 8 0) (value s))
+    (cond (ltb 2048 (met inUse (s .site) (s .k))) (refused 8 0) (value s))
 
 -- a sheet that can be listed: 11 if it has over 24,576 bytes, before all else; then the reader's refusals; then the join's
 unfoldable pub listed : List ℕ → Read Sheet

@@ -4,7 +4,7 @@ use entries::WIDTH;
 use join::Answer;
 use pen::Pen;
 use reader::Reading;
-ghost use mathlib.Core.List.{[], _∷_, _++_};
+ghost use mathlib.Core.List.{[], _∷_};
 ghost use mathlib.Core.Path.{_≡_};
 ghost use Prim.Native.Nat.{_*_, _≤_};
 ghost use lib.ListN.{length};
@@ -14,8 +14,8 @@ ghost use Rattle.pen.specs.Lines.{Fits};
 ghost use Rattle.sheet.specs.Read.{_then_};
 ghost use Rattle.sheet.specs.Reading.{readSheet};
 ghost use Rattle.sheet.specs.Text.{lineText};
-ghost use Rattle.listing.specs.Listing.{countsText, entriesText, joined, fitted, listingIn, refusedText};
-ghost use Rattle.listing.specs.Answers.{listRoom, SheetJoined, TablesJoined, Added, Put};
+ghost use Rattle.listing.specs.Listing.{countsText, entriesText, linesText, joined, listingIn, refusedText};
+ghost use Rattle.listing.specs.Answers.{listRoom, SheetJoined, TablesJoined, frontPen, Added, Put, PutText};
 ghost use Rattle.listing.specs.Calls.{pageRoom, Lists, Prints};
 
 // The most bytes of a sheet.
@@ -118,7 +118,7 @@ fn add_number(text: &mut [u8], p: Pen, key: &[u8], n: u16) -> Penned
 
 // Writes k and the three counts at the front of the text.
 fn add_counts(text: &mut [u8], k: u16, found: u16, events: u16, met: u16) -> Penned
-    ensures { λ r. ⌜ Added (countsText k found events met) (now (text .entry)) (now (text .exit)) (record { place = 0; room = length (now (text .entry)) }) r ⌝ }
+    ensures { λ r. ⌜ Added (countsText k found events met) (now (text .entry)) (now (text .exit)) (frontPen (now (text .entry))) r ⌝ }
 {
     let room = text.len();
     let r = add_number(text, Pen { place: 0, room }, b"k=", k);
@@ -170,7 +170,7 @@ fn write_listing(
     list: &[u16],
 ) -> Listing
     requires { ⌜ width * found ≤ length (now list) ⌝ }
-    ensures { λ r. ⌜ Put (fitted (length (now (text .entry))) (countsText k found events met ++ entriesText (entries found (now (list .entry))))) (now (text .exit)) r ⌝ }
+    ensures { λ r. ⌜ PutText (linesText k found events met (entries found (now (list .entry)))) (now (text .entry)) (now (text .exit)) r ⌝ }
 {
     let r = add_counts(text, k, found, events, met);
     let Penned::On(p) = r else {

@@ -15,10 +15,20 @@ loop-holds : tie.Need-loop-holds Inv-loop μ-loop
 loop-holds c = rows-start _ _ (c .before .before .pre .0)
 
 returns : tie.Need-returns Inv-loop μ-loop
-returns c = let l = c .before .before .before .line-by in let s = c .before .before .before .before .before .before .before .before .before .before .before in rows-full (s .pre .0) (c .before .before .before .before .before .before .before .before .loop .inv) (s .pre .1) (c .before .before .before .before .before .before .before .loop-test .taken) (l .ensures) (l .kept .0) (c .if1 .taken)
+returns c =
+    let w = c .before .before .before in
+    let t = w .before .before .before .before in
+    let l = t .before in
+    let s = l .before .before .before in
+    rows-full (s .pre .0) (l .loop .inv) (s .pre .1) (t .loop-test .taken) (w .line-by .ensures) (w .line-by .kept .0) (c .if1 .taken)
 
 loop-again : tie.Need-loop-again Inv-loop μ-loop
-loop-again c = let l = c .before .before .before .line-by in let s = c .before .before .before .before .before .before .before .before .before .before .before in rows-next (s .pre .0) (c .before .before .before .before .before .before .before .before .loop .inv) (s .pre .1) (c .before .before .before .before .before .before .before .loop-test .taken) (l .ensures) (c .if1 .left)
+loop-again c =
+    let w = c .before .before .before in
+    let t = w .before .before .before .before in
+    let l = t .before in
+    let s = l .before .before .before in
+    rows-next (s .pre .0) (l .loop .inv) (s .pre .1) (t .loop-test .taken) (w .line-by .ensures) (c .if1 .left)
 
 returns-2 : tie.Need-returns-2 Inv-loop μ-loop
 returns-2 c = rows-end (c .before .before .before .before .pre .0) (c .before .loop .inv) (c .loop-test .left)

@@ -10,13 +10,21 @@ returns : tie.Need-returns
 returns c = put-long _ _ (c .if1 .taken) _
 
 write-listing-requires : tie.Need-write-listing-requires
-write-listing-requires c κs = let j = c .before .before .before .before .before .before .join-sheet in omega (arith, j .kept .1 .0, told-few _ (j .ensures) (c .before .before .before .r2 .given .1))
+write-listing-requires c κs =
+    let j = c .before .before .before .before .before .before .join-sheet in
+    omega (arith, j .kept .1 .0, told-few _ (j .ensures) (c .before .before .before .r2 .given .1))
 
 returns-2 : tie.Need-returns-2
-returns-2 c = put-told _ _ (c .before .before .before .before .before .before .if1 .left) (c .before .before .before .before .join-sheet .ensures) (c .before .r .given .1) _
+returns-2 c =
+    let j = c .before .before .before .before in
+    put-told _ _ (j .before .before .if1 .left) (j .join-sheet .ensures) (c .before .r .given .1) _
 
 returns-3 : tie.Need-returns-3
-returns-3 c = put-counts _ _ (c .before .before .before .before .before .before .before .before .before .before .before .if1 .left) (c .before .before .before .before .before .before .before .before .before .join-sheet .ensures) (c .before .before .before .before .before .before .r2 .given .1) (c .before .before .write-listing .ensures)
+returns-3 c =
+    let w = c .before .before in
+    let q = w .before .before .before .before in
+    let j = q .before .before .before in
+    put-counts _ _ (j .before .before .if1 .left) (j .join-sheet .ensures) (q .r2 .given .1) (w .write-listing .ensures)
 
 pub list-into-spec : {M : Type 1} → statement M
 list-into-spec =

@@ -10,13 +10,23 @@ returns : tie.Need-returns
 returns c = text-full _ (c .before .before .before .before .add-counts .ensures) (c .enum-told .given .1)
 
 add-entries-requires : tie.Need-add-entries-requires
-add-entries-requires c κs = (added-fits (c .before .before .before .before .before .before .add-counts .ensures) (c .before .before .r .given .1), c .before .before .before .before .before .before .before .before .before .before .pre)
+add-entries-requires c κs =
+    let a = c .before .before .before .before .before .before in
+    (added-fits (a .add-counts .ensures) (c .before .before .r .given .1), a .before .before .before .before .pre)
 
 returns-2 : tie.Need-returns-2
-returns-2 c = put-full (added-then (c .before .before .before .before .before .before .before .before .before .before .before .add-counts .ensures) (omega arith) (c .before .before .before .before .before .before .before .r .given .1) (c .before .before .before .before .add-entries .ensures)) (c .enum-told2 .given .1)
+returns-2 c =
+    let e = c .before .before .before .before in
+    let q = e .before .before .before in
+    let a = q .before .before .before .before in
+    put-full (added-then (a .add-counts .ensures) (omega arith) (q .r .given .1) (e .add-entries .ensures)) (c .enum-told2 .given .1)
 
 returns-3 : tie.Need-returns-3
-returns-3 c = put-text (added-then (c .before .before .before .before .before .before .before .before .before .before .before .before .add-counts .ensures) (omega arith) (c .before .before .before .before .before .before .before .before .r .given .1) (c .before .before .before .before .before .add-entries .ensures)) (c .before .r2 .given .1)
+returns-3 c =
+    let e = c .before .before .before .before .before in
+    let q = e .before .before .before in
+    let a = q .before .before .before .before in
+    put-text (added-then (a .add-counts .ensures) (omega arith) (q .r .given .1) (e .add-entries .ensures)) (c .before .r2 .given .1)
 
 pub write-listing-spec : {M : Type 1} → statement M
 write-listing-spec =

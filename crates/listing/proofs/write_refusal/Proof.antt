@@ -12,7 +12,10 @@ line-by-requires c κs = sym (page-long (c .before .before .before .before .pre)
 
 returns : tie.Need-returns
 unfolding refusedText
-returns c = let s = c .before .before .before .before .before .before .before in line-written pageRoom (s .pre) (refused-short (s .args .number) (s .args .place) (search needs) (search needs)) (c .before .before .line-by .ensures)
+returns c =
+    let w = c .before .before in
+    let s = w .before .before .before .before .before in
+    line-written pageRoom (s .pre) (refused-short (s .args .number) (s .args .place) (search needs) (search needs)) (w .line-by .ensures)
 
 pub write-refusal-spec : {M : Type 1} → statement M
 write-refusal-spec =
