@@ -11,7 +11,7 @@ use Rattle.sheet.specs.Read.{Read, value, refused, _then_}
 use Rattle.sheet.specs.Reading.{Sheet, readSheet}
 use Rattle.sheet.proofs.Accepted.{read-fits}
 use Rattle.sheet.proofs.Tables.{offsets-length}
-use Rattle.reader.specs.Answers.{answerOf, offsetsBy, codesBy}
+use Rattle.reader.specs.Answers.{readingOf, offsetsBy, codesBy}
 use Rattle.reader.specs.declared.Reading.{Reading}
 use Rattle.reader.specs.declared.Reading.the-variants as reading
 use Rattle.listing.specs.Listing.{joined}
@@ -26,8 +26,8 @@ unfolding padded
 padded-front n ws = take-append-seam ws (replicate (n - length ws) 0)
 
 -- an answer that refuses
-pub read-refused : (x : Read Sheet) {n p : ℕ} → answerOf x ≡ reading.Refused n p → x ≡ refused n p
-unfolding answerOf
+pub read-refused : (x : Read Sheet) {n p : ℕ} → readingOf x ≡ reading.Refused n p → x ≡ refused n p
+unfolding readingOf
 read-refused (value s) e = let y : _≡_ {A = ℕ} 0 1 = cc e in absurd (omega arith)
 read-refused (refused m q) {n} {p} e = let a : m ≡ n = cc e in let b : q ≡ p = cc e in λ i. refused (a i) (b i)
 
@@ -39,8 +39,8 @@ pub record Sheeted (x : Read Sheet) (k c n : ℕ) : Type 0 where
   pub contexts : c ≡ length (sheet .site)
   pub codes : n ≡ length (allCodes (sheet .site))
 
-pub read-sheet : (x : Read Sheet) {k c n : ℕ} → answerOf x ≡ reading.Sheet k c n → Sheeted x k c n
-unfolding answerOf
+pub read-sheet : (x : Read Sheet) {k c n : ℕ} → readingOf x ≡ reading.Sheet k c n → Sheeted x k c n
+unfolding readingOf
 read-sheet (refused m q) e = let y : _≡_ {A = ℕ} 0 1 = cc e in absurd (omega arith)
 read-sheet (value s) {k} {c} {n} e =
     let a : s .k ≡ k = cc e in
@@ -48,7 +48,7 @@ read-sheet (value s) {k} {c} {n} e =
     let d : length (allCodes (s .site)) ≡ n = cc e in
     record { sheet = s; is = refl; asked = sym a; contexts = sym b; codes = sym d }
 
-module _ (sheet : List ℕ) {r : Reading} (e : r ≡ answerOf (readSheet 257 4096 sheet)) where
+module _ (sheet : List ℕ) {r : Reading} (e : r ≡ readingOf (readSheet 257 4096 sheet)) where
   -- what the reader refuses is told
   pub sheet-refused : {n p : ℕ} (list : List ℕ) → r ≡ reading.Refused n p → SheetJoined (readSheet 257 4096 sheet then joined) list (told.Refused n p)
   sheet-refused list f = told-refused list (rw (read-refused (readSheet 257 4096 sheet) (sym e ∙ f)))

@@ -3,6 +3,7 @@ use borrow.Author.Needs.{needs}
 use mathlib.Core.Path.{sym}
 use native.Mathlib.Omega.{arith}
 use lib.Seq.{length-take-le}
+use Rattle.reader.proofs.Answers.{reads-answer}
 use Rattle.listing.proofs.Sheets.{tables-fit, sheet-refused, sheet-told}
 use Rattle.listing.proofs.join_sheet.Statement.{statement}
 use Rattle.listing.proofs.join_sheet.Tie as tie
@@ -10,32 +11,32 @@ use Rattle.listing.proofs.join_sheet.Tie as tie
 array-share-prefix-offsets : tie.Need-array-share-prefix-offsets
 array-share-prefix-offsets c =
     let r = c .before .before .before .before .before .read in
-    omega (arith, r .kept .1 .0, tables-fit _ (r .ensures .answer) (c .before .r2 .given .1) .0)
+    omega (arith, r .kept .1 .0, tables-fit _ (reads-answer (r .ensures)) (c .before .r2 .given .1) .0)
 
 slice-aggregate-join-tables : tie.Need-slice-aggregate-join-tables
 slice-aggregate-join-tables c =
     let r = c .before .before .before .before .before .before .read in
-    sym (length-take-le _ _ (omega (arith, r .kept .1 .0, tables-fit _ (r .ensures .answer) (c .before .before .r2 .given .1) .0)))
+    sym (length-take-le _ _ (omega (arith, r .kept .1 .0, tables-fit _ (reads-answer (r .ensures)) (c .before .before .r2 .given .1) .0)))
 
 array-share-prefix-codes : tie.Need-array-share-prefix-codes
 array-share-prefix-codes c =
     let r = c .before .before .before .before .before .before .read in
-    omega (arith, r .kept .1 .1 .0, tables-fit _ (r .ensures .answer) (c .before .before .r2 .given .1) .1)
+    omega (arith, r .kept .1 .1 .0, tables-fit _ (reads-answer (r .ensures)) (c .before .before .r2 .given .1) .1)
 
 slice-aggregate-join-tables-2 : tie.Need-slice-aggregate-join-tables-2
 slice-aggregate-join-tables-2 c =
     let r = c .before .before .before .before .before .before .before .read in
-    sym (length-take-le _ _ (omega (arith, r .kept .1 .1 .0, tables-fit _ (r .ensures .answer) (c .before .before .before .r2 .given .1) .1)))
+    sym (length-take-le _ _ (omega (arith, r .kept .1 .1 .0, tables-fit _ (reads-answer (r .ensures)) (c .before .before .before .r2 .given .1) .1)))
 
 returns : tie.Need-returns
-returns c = sheet-refused _ (c .before .before .before .before .before .read .ensures .answer) _ (c .before .r .given .1)
+returns c = sheet-refused _ (reads-answer (c .before .before .before .before .before .read .ensures)) _ (c .before .r .given .1)
 
 returns-2 : tie.Need-returns-2
 returns-2 c =
     let j = c .before .before in
     let q = j .before .before .before .before .before in
     let r = q .before .before .before .before .read .ensures in
-    sheet-told _ (r .answer) (q .r2 .given .1) (r .offsets-are) (r .codes-are) (j .join-tables .ensures)
+    sheet-told _ (reads-answer r) (q .r2 .given .1) (r .offsets-are) (r .codes-are) (j .join-tables .ensures)
 
 pub join-sheet-spec : {M : Type 1} → statement M
 join-sheet-spec =
