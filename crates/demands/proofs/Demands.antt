@@ -1,7 +1,7 @@
 -- What the package promises: the three demands, each of every call that meets the contract in the code.
 -- `Post` is a call's contract itself, as it is read from the code: of its arguments a, its answer u and its buffers x at exit.
 -- `Says n ps r Post C` is: every call that meets that contract has C. That the code meets its contracts is what the kit checks.
-use mathlib.Core.List.{List, [], _∷_}
+use mathlib.Core.List.{[], _∷_}
 use mathlib.Core.Path.{_≡_}
 use Prim.Native.Nat.{ℕ, _+_, _-_, _≤_}
 use lib.ListN.{length, take}

@@ -1,14 +1,13 @@
 -- What the records of reader and writer say of refusals: each has its cause, what has a cause is refused, and the buffers after it.
 use mathlib.Core.List.{List, [], _∷_}
 use mathlib.Core.Path.{_≡_, refl, sym, ap, _∙_}
-use Prim.Native.Nat.{ℕ, _-_, _<_}
+use Prim.Native.Nat.{ℕ}
 use native.Mathlib.Nat.{sub-zero}
 use native.Mathlib.Omega.{arith}
-use lib.ListN.{length, replicate}
+use lib.ListN.{length}
 use Rattle.words.specs.Words.{padded}
-use Rattle.tables.specs.declared.Check.{Check}
 use Rattle.sheet.specs.Read.{Read, value, refused, readValues}
-use Rattle.sheet.specs.Reading.{Sheet, readSheet}
+use Rattle.sheet.specs.Reading.{Sheet}
 use Rattle.sheet.proofs.Accepted.{accepts}
 use Rattle.sheet.proofs.Meanings.{refusal-means, meaning-refused}
 use Rattle.search.specs.Outcome.{zeros}

@@ -32,7 +32,7 @@ use Rattle.sheet.specs.Read.{Read, value, refused}
 use Rattle.sheet.specs.Reading.{Sheet}
 use Rattle.sheet.proofs.Lines.{no-value}
 use Rattle.listing.specs.Listing.{joined}
-use Rattle.listing.specs.Answers.{listRoom, countsOf, SheetJoined, TablesJoined}
+use Rattle.listing.specs.Inside.{listRoom, countsOf, SheetJoined, TablesJoined}
 use Rattle.listing.specs.declared.Joined.the-variants as told
 
 -- ---- the counts of a site

@@ -20,7 +20,7 @@ use Rattle.sheet.specs.Read.{Read, value, refused, _then_}
 use Rattle.sheet.specs.Reading.{Sheet, readSheet}
 use Rattle.sheet.proofs.Lines.{no-value, then-value}
 use Rattle.listing.specs.Listing.{joined}
-use Rattle.listing.specs.Answers.{countsOf, SheetJoined}
+use Rattle.listing.specs.Inside.{countsOf, SheetJoined}
 use Rattle.listing.specs.declared.Joined.{Joined}
 use Rattle.listing.specs.declared.Joined.the-variants as told
 use Rattle.listing.proofs.Joining.{checked, joined-stops, joined-over, joined-is, events-few}

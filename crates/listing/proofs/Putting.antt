@@ -19,17 +19,20 @@ use Rattle.sheet.specs.Read.{Read, value, refused, _then_}
 use Rattle.sheet.specs.Reading.{Sheet, readSheet}
 use Rattle.sheet.proofs.Tables.{front-fits}
 use Rattle.listing.specs.Listing.{linesText, listingText, joined, listed, listingOf, fitted, listingIn}
-use Rattle.listing.specs.Answers.{listRoom, listingBy, bytesOf, SheetJoined, frontPen, Added, Put, PutText}
+use Rattle.listing.specs.Answers.{listingBy, bytesOf}
+use Rattle.listing.specs.Inside.{listRoom, SheetJoined, Put, PutText}
+use Rattle.pen.specs.Added.{Added}
+use Rattle.pen.specs.Lines.{frontPen}
 use Rattle.listing.specs.Calls.{Lists}
-use Rattle.listing.proofs.Adding.{added-stop}
+use Rattle.pen.proofs.Added.{added-stop}
 use Rattle.listing.proofs.Telling.{by-text, by-refused}
 use Rattle.listing.proofs.Passing.{counts-refused, counted, joined-passed, found-few}
 use Rattle.listing.specs.declared.Listing.{Listing}
 use Rattle.listing.specs.declared.Listing.the-variants as listing
 use Rattle.listing.specs.declared.Joined.{Joined}
 use Rattle.listing.specs.declared.Joined.the-variants as told
-use Rattle.listing.specs.declared.Penned.{Penned}
-use Rattle.listing.specs.declared.Penned.the-variants.{On, Full}
+use Rattle.pen.specs.declared.Penned.{Penned}
+use Rattle.pen.specs.declared.Penned.the-variants.{On, Full}
 
 -- ---- the two ways of a text
 

@@ -15,7 +15,7 @@ use Rattle.reader.specs.Answers.{readingOf, offsetsBy, codesBy}
 use Rattle.reader.specs.declared.Reading.{Reading}
 use Rattle.reader.specs.declared.Reading.the-variants as reading
 use Rattle.listing.specs.Listing.{joined}
-use Rattle.listing.specs.Answers.{SheetJoined, TablesJoined}
+use Rattle.listing.specs.Inside.{SheetJoined, TablesJoined}
 use Rattle.listing.specs.declared.Joined.{Joined}
 use Rattle.listing.specs.declared.Joined.the-variants as told
 use Rattle.listing.proofs.Joining.{told-refused}

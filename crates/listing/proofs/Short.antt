@@ -15,7 +15,7 @@ use Rattle.site.specs.Events.{found, events, met}
 use Rattle.site.specs.Tables.{siteOf, offsetsOf, allCodes}
 use Rattle.site.proofs.Contexts.{first-bound}
 use Rattle.site.proofs.Best.{list-shares}
-use Rattle.words.specs.Words.{flat}
+use Rattle.words.specs.Words.{flat, Words16}
 use Rattle.words.proofs.Split.{by-le}
 use Rattle.tables.proofs.Cuts.{site-back}
 use Rattle.tables.proofs.Sound.{contexts-are, size-small, sound-rises}
@@ -23,7 +23,6 @@ use Rattle.entries.specs.Entries.{words, entryOf}
 use Rattle.sheet.specs.Read.{value}
 use Rattle.sheet.specs.Number.{digitsOf}
 use Rattle.sheet.specs.Text.{kKey, codesText, lineText}
-use Rattle.sheet.specs.Fits.{Words}
 use Rattle.sheet.specs.Reading.{Sheet, readSheet}
 use Rattle.sheet.proofs.Digits.{length-one, length-more}
 use Rattle.sheet.proofs.Lines.{no-value, then-value}
@@ -42,14 +41,14 @@ digits-five : (n : ℕ) → n ≤ 65535 → length (digitsOf n) ≤ 5
 digits-five n h = shorter 4 10000 (shorter 3 1000 (shorter 2 100 (shorter 1 10 (λ m l. le-of-eq (length-one m l))))) n (omega arith)
 
 -- six bytes a number, with the one behind it
-numbers-short : (ns : List ℕ) → Words ns → length (codesText ns) ≤ 6 * length ns
+numbers-short : (ns : List ℕ) → Words16 ns → length (codesText ns) ≤ 6 * length ns
 unfolding codesText
 numbers-short [] w = omega arith
 numbers-short (n ∷ []) w = omega (arith, digits-five n (w .0))
 numbers-short (n ∷ m ∷ ns) w = rw length-append (omega (arith, digits-five n (w .0), numbers-short (m ∷ ns) (w .1)))
 
 -- a line with its key and its end
-pub line-short : (key ns : List ℕ) → Words ns → length (lineText key ns) ≤ length key + 6 * length ns + 1
+pub line-short : (key ns : List ℕ) → Words16 ns → length (lineText key ns) ≤ length key + 6 * length ns + 1
 line-short key ns w = omega (arith, line-length key ns, numbers-short ns w)
 
 -- ---- the entries of the list
@@ -76,7 +75,7 @@ module _ {s : Sheet} (p : Passed s) where
       omega (arith, z, size-small (p .sound) i (omega (arith, l, contexts-are (p .sound))))
 
   -- so an entry's numbers are words
-  entry-words : (q : Pair) → Shares (s .site) q → Words (words (entryOf (s .site) q))
+  entry-words : (q : Pair) → Shares (s .site) q → Words16 (words (entryOf (s .site) q))
   unfolding union
   entry-words q h =
       let a = size-few (q .lower) (omega (arith, h .rising, h .inside)) in

@@ -3,6 +3,7 @@
 use entries::WIDTH;
 use join::Answer;
 use pen::Pen;
+use pen::Penned;
 use reader::Reading;
 ghost use mathlib.Core.List.{[], _∷_};
 ghost use mathlib.Core.Path.{_≡_};
@@ -15,7 +16,9 @@ ghost use Rattle.sheet.specs.Read.{_then_};
 ghost use Rattle.sheet.specs.Reading.{readSheet};
 ghost use Rattle.sheet.specs.Text.{lineText};
 ghost use Rattle.listing.specs.Listing.{countsText, entriesText, linesText, joined, listingIn, refusedText};
-ghost use Rattle.listing.specs.Answers.{listRoom, SheetJoined, TablesJoined, frontPen, Added, Put, PutText};
+ghost use Rattle.listing.specs.Inside.{listRoom, SheetJoined, TablesJoined, Put, PutText};
+ghost use Rattle.pen.specs.Added.{Added};
+ghost use Rattle.pen.specs.Lines.{frontPen};
 ghost use Rattle.listing.specs.Calls.{pageRoom, Lists, Prints};
 
 // The most bytes of a sheet.
@@ -52,12 +55,6 @@ enum Joined {
         number: u16,
         place: usize,
     },
-}
-
-// The pen behind what was written, or that it does not fit.
-enum Penned {
-    On(Pen),
-    Full,
 }
 
 // Joins tables, with a work area and a trail of its own: room for 2,048 pairs.

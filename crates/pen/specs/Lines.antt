@@ -13,6 +13,10 @@ use Rattle.pen.specs.Pieces.{written}
 abbrev pub Fits : Pen → List ℕ → Type 0
 Fits p text = p .place + p .room ≡ length text
 
+-- a pen at the front of a text
+abbrev pub frontPen : List ℕ → Pen
+frontPen text = record { place = 0; room = length text }
+
 -- moved on by n bytes if there is room for them, else as it is
 unfoldable pub movedBy : Pen → ℕ → Pen
 movedBy p n = cond (leb n (p .room)) (record { place = p .place + n; room = p .room - n }) p

@@ -11,11 +11,12 @@ use Rattle.sheet.specs.Text.{kKey, contextsKey, cKey, sheetText}
 use Rattle.sheet.specs.Reading.{behind, roomAfter, codesRead, contextOf, Line, line, linesOf, Sheet, readSheet}
 use Rattle.site.specs.Tables.{allCodes}
 use Rattle.sheet.proofs.Lines.{ReadSmall, then-value, number-small, behind-small, room-left, nothing-read, lines-count}
-use Rattle.sheet.proofs.ReadsBack.{Words, SiteWords, SheetFits, reads-back}
+use Rattle.sheet.proofs.ReadsBack.{SiteWords, SheetFits, reads-back}
+use Rattle.words.specs.Words.{Words16}
 use Rattle.sheet.proofs.WritesBack.{behind-read, line-written, writes-back}
 use Rattle.sheet.proofs.Nine.{text-judged, never-nine}
 
-codes-fit : (most used at : ℕ) (ws : List (List ℕ)) {cs : List ℕ} → used ≤ most → codesRead most used at ws ≡ value cs → Words cs × (used + length cs ≤ most)
+codes-fit : (most used at : ℕ) (ws : List (List ℕ)) {cs : List ℕ} → used ≤ most → codesRead most used at ws ≡ value cs → Words16 cs × (used + length cs ≤ most)
 unfolding codesRead
 codes-fit most used at [] {cs} h e = let f : [] ≡ cs = cc in rw (← f) (tt, omega arith)
 codes-fit most used at (w ∷ ws) {cs} h e =
@@ -26,7 +27,7 @@ codes-fit most used at (w ∷ ws) {cs} h e =
     let r = codes-fit most (suc used) (at + length w + 1) ws (room-left most used _ (s .fits)) (b .1) in
     rw (← f) ((s .few, r .0), omega (arith, r .1))
 
-pub context-fit : (most used at : ℕ) (l : List ℕ) {cs : List ℕ} → used ≤ most → contextOf most used at l ≡ value cs → Words cs × (used + length cs ≤ most)
+pub context-fit : (most used at : ℕ) (l : List ℕ) {cs : List ℕ} → used ≤ most → contextOf most used at l ≡ value cs → Words16 cs × (used + length cs ≤ most)
 unfolding contextOf
 context-fit most used at [] {cs} h e = let f : [] ≡ cs = cc in rw (← f) (tt, omega arith)
 context-fit most used at (b ∷ l) h e = codes-fit most used at (split 32 (b ∷ l)) h e

@@ -12,7 +12,8 @@ use Rattle.sheet.specs.Number.{digitsOf, digitsIn, numberOf}
 use Rattle.sheet.specs.Pieces.{split, onFirst}
 use Rattle.sheet.specs.Text.{cKey, codesText, lineText, linesText}
 use Rattle.sheet.specs.Reading.{behind, roomAfter, codesRead, contextOf, line, linesOf}
-use Rattle.sheet.specs.Fits.{Words, SiteWords}
+use Rattle.sheet.specs.Fits.{SiteWords}
+use Rattle.words.specs.Words.{Words16}
 use Rattle.sheet.specs.Meaning.{spaced}
 use Rattle.sheet.proofs.Numbers.{in-within}
 use Rattle.sheet.proofs.Numerals.{number-digits}
@@ -45,7 +46,7 @@ unfolding spaced
 spaced-free [] = tt
 spaced-free (n ∷ ns) = free-append 10 (digitsOf n) (32 ∷ spaced ns) (digits-free 10 n (omega arith)) (λ e. omega arith, spaced-free ns)
 
-codes-refuse : (most used at : ℕ) {n : ℕ} (cs r : List ℕ) → Words cs → used + length cs ≤ most → Over (roomAfter most (used + length cs)) n (digitsIn r)
+codes-refuse : (most used at : ℕ) {n : ℕ} (cs r : List ℕ) → Words16 cs → used + length cs ≤ most → Over (roomAfter most (used + length cs)) n (digitsIn r)
     → codesRead most used at (split 32 (spaced cs ++ r)) ≡ refused n (at + length (spaced cs))
 unfolding codesRead spaced
 codes-refuse most used at [] r w h o =
@@ -65,7 +66,7 @@ codes-refuse most used at (c ∷ cs) r w h o =
       p,
     )
 
-context-refuses : (most used at : ℕ) {n : ℕ} (cs r : List ℕ) → Words cs → used + length cs ≤ most → Over (roomAfter most (used + length cs)) n (digitsIn r)
+context-refuses : (most used at : ℕ) {n : ℕ} (cs r : List ℕ) → Words16 cs → used + length cs ≤ most → Over (roomAfter most (used + length cs)) n (digitsIn r)
     → contextOf most used at (spaced cs ++ r) ≡ refused n (at + length (spaced cs))
 context-refuses most used at cs r w h o =
     context-some most used at (spaced cs ++ r) (omega (arith, length-append (spaced cs) r, in-within r, over-digits o)) ∙ codes-refuse most used at cs r w h o
@@ -77,7 +78,7 @@ number-line-refuses key room at r f o =
     let d = first-digits 10 r (x .0) (x .1) (omega arith) (x .2) in
     rw (split-before 10 key r (x .0) (x .1) f (x .2)) (line-no (behind key (numberOf room)) at (key ++ x .0) (x .1) (behind-key key (numberOf room) at (x .0) ∙ number-refuses room (at + length key) (x .0) (rw d at o)))
 
-codes-line-refuses : (most used at : ℕ) {n : ℕ} (cs r : List ℕ) → Words cs → used + length cs ≤ most → Over (roomAfter most (used + length cs)) n (digitsIn r)
+codes-line-refuses : (most used at : ℕ) {n : ℕ} (cs r : List ℕ) → Words16 cs → used + length cs ≤ most → Over (roomAfter most (used + length cs)) n (digitsIn r)
     → line (behind cKey (contextOf most used)) at (split 10 (cKey ++ (spaced cs ++ r))) ≡ refused n (at + 2 + length (spaced cs))
 codes-line-refuses most used at cs r w h o =
     let x = split-some 10 r in
@@ -87,7 +88,7 @@ codes-line-refuses most used at cs r w h o =
     rw (split-before 10 cKey (spaced cs ++ r) l (x .1) (λ e. omega arith, (λ e. omega arith, tt)) s)
     (line-no (behind cKey (contextOf most used)) at (cKey ++ l) (x .1) (behind-key cKey (contextOf most used) at l ∙ context-refuses most used (at + 2) cs (x .0) w h (rw d at o)))
 
-pub lines-refuse : (most n used at : ℕ) {m : ℕ} (site : List (List ℕ)) (cs r : List ℕ) → length site < n → SiteWords site → Words cs → used + length (allCodes site) + length cs ≤ most
+pub lines-refuse : (most n used at : ℕ) {m : ℕ} (site : List (List ℕ)) (cs r : List ℕ) → length site < n → SiteWords site → Words16 cs → used + length (allCodes site) + length cs ≤ most
     → Over (roomAfter most (used + length (allCodes site) + length cs)) m (digitsIn r)
     → linesOf most n used at (split 10 (linesText site ++ (cKey ++ (spaced cs ++ r)))) ≡ refused m (at + length (linesText site) + 2 + length (spaced cs))
 unfolding linesOf linesText lineText allCodes

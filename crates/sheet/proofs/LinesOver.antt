@@ -9,7 +9,8 @@ use Rattle.sheet.specs.Read.{value, refused}
 use Rattle.sheet.specs.Number.{digitsIn}
 use Rattle.sheet.specs.Text.{cKey, codesText, lineText, linesText}
 use Rattle.sheet.specs.Reading.{behind, roomAfter, contextOf, Line, line, linesOf}
-use Rattle.sheet.specs.Fits.{Words, SiteWords}
+use Rattle.sheet.specs.Fits.{SiteWords}
+use Rattle.words.specs.Words.{Words16}
 use Rattle.sheet.specs.Meaning.{spaced}
 use Rattle.sheet.proofs.Refusal.{then-refused}
 use Rattle.sheet.proofs.Lines.{no-value}
@@ -27,7 +28,7 @@ pub record LinesOver (most owed used n at p : ℕ) (t : List ℕ) : Type 0 where
   pub place : p ≡ at + length (linesText site) + 2 + length (spaced cs)
   pub more : length site < owed
   pub site-words : SiteWords site
-  pub words : Words cs
+  pub words : Words16 cs
   pub fits : used + length (allCodes site) + length cs ≤ most
   pub over : Over (roomAfter most (used + length (allCodes site) + length cs)) n (digitsIn rest)
 
@@ -37,7 +38,7 @@ lines-here {used = used} l t d o =
     let q : used + length (o .cs) ≡ used + 0 + length (o .cs) = omega arith in
     record { site = []; cs = o .cs; rest = o .rest ++ t; whole = rw (o .whole, append-assoc); place = omega (arith, o .place); more = omega arith; site-words = tt; words = o .words; fits = omega (arith, o .fits); over = rw (d (o .rest), ← q) (o .over) }
 
-lines-next : {most owed used n at p q : ℕ} (c t : List ℕ) → Words c → q ≡ at + length (cKey ++ codesText c) + 1 → LinesOver most owed (used + length c) n q p t → LinesOver most (suc owed) used n at p ((cKey ++ codesText c) ++ 10 ∷ t)
+lines-next : {most owed used n at p q : ℕ} (c t : List ℕ) → Words16 c → q ≡ at + length (cKey ++ codesText c) + 1 → LinesOver most owed (used + length c) n q p t → LinesOver most (suc owed) used n at p ((cKey ++ codesText c) ++ 10 ∷ t)
 unfolding linesText allCodes lineText
 lines-next {used = used} c t v z o =
     let l = cKey ++ codesText c in
@@ -61,7 +62,7 @@ lines-next {used = used} c t v z o =
 
 -- a line of codes that was read
 codes-line : (most used at : ℕ) (ls : List (List ℕ)) {x : Line (List ℕ)} → used ≤ most → line (behind cKey (contextOf most used)) at ls ≡ value x
-    → (joined 10 ls ≡ (cKey ++ codesText (x .got)) ++ 10 ∷ joined 10 (x .lines)) × (x .next ≡ at + length (cKey ++ codesText (x .got)) + 1) × Words (x .got) × (used + length (x .got) ≤ most)
+    → (joined 10 ls ≡ (cKey ++ codesText (x .got)) ++ 10 ∷ joined 10 (x .lines)) × (x .next ≡ at + length (cKey ++ codesText (x .got)) + 1) × Words16 (x .got) × (used + length (x .got) ≤ most)
 codes-line most used at ls {x} k f =
     let a = line-written (behind cKey (contextOf most used)) at ls f in
     let b = behind-read cKey (contextOf most used) at (a .0) (a .1) in

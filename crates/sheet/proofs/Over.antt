@@ -11,7 +11,7 @@ use Rattle.sheet.specs.Read.{Read, refused}
 use Rattle.sheet.specs.Number.{digitsOf, valueOf, digitRun, digitsIn, numberOf}
 use Rattle.sheet.specs.Pieces.{split}
 use Rattle.sheet.specs.Reading.{behind, roomAfter, codesRead, contextOf, line}
-use Rattle.sheet.specs.Fits.{Words}
+use Rattle.words.specs.Words.{Words16}
 use Rattle.sheet.specs.Meaning.{spaced}
 use Rattle.sheet.proofs.Numbers.{by-digit, in-none, in-zero, in-run}
 use Rattle.sheet.proofs.Numerals.{number-read}
@@ -56,7 +56,7 @@ pub record CodeOver (most used n at p : ℕ) (l : List ℕ) : Type 0 where
   pub rest : List ℕ
   pub whole : l ≡ spaced cs ++ rest
   pub place : p ≡ at + length (spaced cs)
-  pub words : Words cs
+  pub words : Words16 cs
   pub fits : used + length cs ≤ most
   pub over : Over (roomAfter most (used + length cs)) n (digitsIn rest)
 

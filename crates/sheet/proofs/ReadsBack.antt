@@ -12,7 +12,8 @@ use Rattle.sheet.specs.Pieces.{split, onFirst}
 use Rattle.sheet.specs.Text.{kKey, contextsKey, cKey, codesText, lineText, linesText, sheetText}
 use Rattle.sheet.specs.Reading.{behind, roomAfter, codesRead, contextOf, line, nothing, linesOf, readSheet}
 use Rattle.site.specs.Tables.{allCodes}
-pub use Rattle.sheet.specs.Fits.{Words, SiteWords, SheetFits}
+pub use Rattle.sheet.specs.Fits.{SiteWords, SheetFits}
+use Rattle.words.specs.Words.{Words16}
 use Rattle.sheet.proofs.Pieces.{split-some}
 use Rattle.sheet.proofs.Numerals.{Digital, good, number-digits}
 
@@ -47,7 +48,7 @@ unfolding codesText
 words-of n [] = split-free 32 (digitsOf n) (digits-free 32 n (omega arith))
 words-of n (m ∷ ns) = split-cut 32 (digitsOf n) (codesText (m ∷ ns)) (digits-free 32 n (omega arith)) ∙ ap (λ (l : List (List ℕ)). digitsOf n ∷ l) (words-of m ns)
 
-codes-read : (most used at : ℕ) (cs : List ℕ) → Words cs → used + length cs ≤ most → codesRead most used at (map digitsOf cs) ≡ value cs
+codes-read : (most used at : ℕ) (cs : List ℕ) → Words16 cs → used + length cs ≤ most → codesRead most used at (map digitsOf cs) ≡ value cs
 unfolding codesRead
 codes-read most used at [] w h = refl
 codes-read most used at (n ∷ ns) w h =
@@ -65,7 +66,7 @@ unfolding codesText
 codes-length n [] = good n .some
 codes-length n (m ∷ ns) = rw length-append (omega (arith, good n .some))
 
-pub context-read : (most used at : ℕ) (cs : List ℕ) → Words cs → used + length cs ≤ most → contextOf most used at (codesText cs) ≡ value cs
+pub context-read : (most used at : ℕ) (cs : List ℕ) → Words16 cs → used + length cs ≤ most → contextOf most used at (codesText cs) ≡ value cs
 unfolding contextOf codesText
 context-read most used at [] w h = refl
 context-read most used at (n ∷ ns) w h = context-some most used at (codesText (n ∷ ns)) (codes-length n ns) ∙ rw (words-of n ns) (codes-read most used at (n ∷ ns) w h)

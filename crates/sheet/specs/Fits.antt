@@ -3,16 +3,12 @@ use mathlib.Core.List.{List, [], _∷_}
 use Prim.Native.Nat.{ℕ, _≤_, _<_, min}
 use lib.ListN.{length}
 use Rattle.site.specs.Tables.{allCodes}
+use Rattle.words.specs.Words.{Words16}
 
--- every code of a context is at most 65,535
-abbrev pub Words : List ℕ → Type 0
-Words [] = Unit {0}
-Words (n ∷ ns) = (n ≤ 65535) × Words ns
-
--- every code of a site is
+-- every code of a site is at most 65,535
 abbrev pub SiteWords : List (List ℕ) → Type 0
 SiteWords [] = Unit {0}
-SiteWords (c ∷ site) = Words c × SiteWords site
+SiteWords (c ∷ site) = Words16 c × SiteWords site
 
 -- k and the site fit so many lent offset words and code words
 pub record SheetFits (offsets codes k : ℕ) (site : List (List ℕ)) : Type 0 where

@@ -9,7 +9,8 @@ use Rattle.sheet.specs.Read.{refused}
 use Rattle.sheet.specs.Number.{digitsOf, valueOf, digitsIn}
 use Rattle.sheet.specs.Text.{kKey, contextsKey, cKey, numberText, linesText, sheetText}
 use Rattle.sheet.specs.Reading.{readSheet}
-use Rattle.sheet.specs.Fits.{Words, SiteWords}
+use Rattle.sheet.specs.Fits.{SiteWords}
+use Rattle.words.specs.Words.{Words16}
 
 -- s and t have the first m bytes in common
 pub record Alike (m : ℕ) (s t : List ℕ) : Type 0 where
@@ -61,7 +62,7 @@ abbrev pub InRange : ℕ → ℕ → Which → Type 0
 InRange offsets codes of-k = Unit {0}
 InRange offsets codes (of-contexts k) = k ≤ 65535
 InRange offsets codes (of-code k n site cs) =
-    (k ≤ 65535) × (n < min 257 offsets) × (length site < n) × SiteWords site × Words cs × (length (allCodes site) + length cs ≤ min 4096 codes)
+    (k ≤ 65535) × (n < min 257 offsets) × (length site < n) × SiteWords site × Words16 cs × (length (allCodes site) + length cs ≤ min 4096 codes)
 
 -- at p stands the first digit of the number x of s; its digits, all from there that can stand in a number, say v
 pub record NumberAt (offsets codes : ℕ) (x : Which) (s : List ℕ) (p v : ℕ) : Type 0 where

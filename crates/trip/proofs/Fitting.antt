@@ -1,36 +1,37 @@
 -- Tables that pass 1 to 5 fit a sheet, and the reader's words and room.
-use mathlib.Core.Path.{_≡_, ap, subst, _∙_}
+use mathlib.Core.Path.{_≡_}
 use mathlib.Core.List.{List, [], _∷_}
 use Prim.Native.Nat.{ℕ, zero, suc, _≤_, _<_, zero-le}
 use native.Mathlib.Omega.{arith}
 use borrow.Author.Tests.{lt-ltb}
 use lib.ListN.{length, getD, take, drop}
 use Rattle.words.proofs.Split.{by-le}
-use Rattle.site.specs.Tables.{siteOf, offsetsFrom, offsetsOf, allCodes}
-use Rattle.sheet.proofs.ReadsBack.{Words, SiteWords, SheetFits}
+use Rattle.site.specs.Tables.{siteOf}
+use Rattle.sheet.proofs.ReadsBack.{SiteWords, SheetFits}
+use Rattle.words.specs.Words.{Words16}
 use Rattle.tables.specs.Rules.{codeRule, codeRuleBy}
 use Rattle.tables.specs.Sound.{Sound}
 use Rattle.tables.proofs.Meaning.{fine-means}
-use Rattle.tables.proofs.Sound.{contexts-are, offset-first}
+use Rattle.tables.proofs.Sound.{contexts-are}
 use Rattle.tables.proofs.Checks.{Accepted}
 use Rattle.tables.proofs.Cuts.{tables-back}
 
 -- the codes fit their words
-words-of : (cs : List ℕ) → ((i : ℕ) → i < length cs → getD cs i 0 ≤ 65535) → Words cs
+words-of : (cs : List ℕ) → ((i : ℕ) → i < length cs → getD cs i 0 ≤ 65535) → Words16 cs
 words-of [] h = tt
 words-of (c ∷ cs) h = (h 0 (omega arith), words-of cs (λ i l. h (suc i) (omega arith)))
 
-words-take : (n : ℕ) (cs : List ℕ) → Words cs → Words (take n cs)
+words-take : (n : ℕ) (cs : List ℕ) → Words16 cs → Words16 (take n cs)
 words-take zero cs w = tt
 words-take (suc n) [] w = tt
 words-take (suc n) (c ∷ cs) w = (w .0, words-take n cs (w .1))
 
-words-drop : (n : ℕ) (cs : List ℕ) → Words cs → Words (drop n cs)
+words-drop : (n : ℕ) (cs : List ℕ) → Words16 cs → Words16 (drop n cs)
 words-drop zero cs w = w
 words-drop (suc n) [] w = tt
 words-drop (suc n) (c ∷ cs) w = words-drop n cs (w .1)
 
-site-words : (os cs : List ℕ) → Words cs → SiteWords (siteOf os cs)
+site-words : (os cs : List ℕ) → Words16 cs → SiteWords (siteOf os cs)
 unfolding siteOf
 site-words [] cs w = tt
 site-words (a ∷ []) cs w = tt

@@ -1,8 +1,7 @@
 -- Both round trips, over the contracts of the two calls as records: `Reads` and `Writes`. The crate `demands` says them of the contracts themselves.
-use mathlib.Core.Path.{_≡_, sym, subst, _∙_}
+use mathlib.Core.Path.{_≡_, sym, _∙_}
 use mathlib.Core.List.{List, [], _∷_}
 use Prim.Native.Nat.{ℕ, _+_, _-_, _≤_}
-use native.Mathlib.Omega.{arith}
 use lib.ListN.{length, take}
 use Rattle.words.specs.Words.{padded}
 use Rattle.site.specs.Tables.{siteOf}
@@ -20,7 +19,7 @@ use Rattle.reader.proofs.Answers.{tells-sheet, sheet-tells, reads-answer}
 use Rattle.writer.specs.declared.Writing.{Writing}
 use Rattle.writer.specs.Writes.{WritingTells}
 use Rattle.writer.specs.Calls.{Writes}
-use Rattle.writer.proofs.Answers.{written-tells, told-written, accepted-written}
+use Rattle.writer.proofs.Answers.{told-written, accepted-written}
 use Rattle.trip.proofs.Fronts.{front-of, sheet-read, fronts, text-of, tables-again}
 use Rattle.trip.proofs.Fitting.{written-fits}
 

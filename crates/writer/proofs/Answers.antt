@@ -12,7 +12,7 @@ use Rattle.tables.specs.declared.Check.the-variants as check
 use Rattle.site.specs.Tables.{siteOf}
 use Rattle.sheet.specs.Text.{sheetText}
 use Rattle.tables.specs.Checks.{tablesCheck}
-use Rattle.tables.specs.Refusals.{Broken, Unbroken}
+use Rattle.tables.specs.Refusals.{Unbroken}
 use Rattle.tables.proofs.Refusals.{refused-exactly, fine-exactly, breaks-number}
 use Rattle.writer.specs.declared.Writing.{Writing}
 use Rattle.writer.specs.declared.Writing.the-variants.{Written, Refused}

@@ -15,13 +15,14 @@ use Rattle.tables.specs.declared.Check.the-variants as check
 use Rattle.pen.specs.declared.Pen.{Pen}
 use Rattle.pen.specs.declared.Penned.{Penned}
 use Rattle.pen.specs.declared.Penned.the-variants.{On, Full}
+use Rattle.pen.specs.Lines.{frontPen}
 use Rattle.pen.specs.Added.{Added}
 use Rattle.writer.specs.declared.Writing.the-variants.{Written, Refused}
 use Rattle.writer.specs.Writes.{answerBy, textBy}
 use Rattle.writer.specs.Calls.{Writes}
 
 -- there is a place behind the lines
-pub written-fits : {text old now : List ℕ} {r : Penned} → Added text old now (record { place = 0; room = length old }) r → {q : Pen} → r ≡ On q → q .place ≤ length now
+pub written-fits : {text old now : List ℕ} {r : Penned} → Added text old now (frontPen old) r → {q : Pen} → r ≡ On q → q .place ≤ length now
 written-fits w {q} f = let h = w .on q f in omega (arith, h .fits)
 
 module _ (k : ℕ) (offsets codes old : List ℕ) {c : Check} (q : c ≡ tablesCheck k offsets codes) where
@@ -34,7 +35,7 @@ module _ (k : ℕ) (offsets codes old : List ℕ) {c : Check} (q : c ≡ tablesC
   unfolding answerBy textBy
   write-refused e = record { answer = rw (← q, e) refl; text-is = rw (← q, e) refl }
 
-  module _ (e : c ≡ check.Fine) {now : List ℕ} {r : Penned} (w : Added text old now (record { place = 0; room = length old }) r) where
+  module _ (e : c ≡ check.Fine) {now : List ℕ} {r : Penned} (w : Added text old now (frontPen old) r) where
     -- no room
     pub write-full : r ≡ Full → {out : List ℕ} → out ≡ take 0 now ++ replicate (length now - 0) 0 → Writes k offsets codes old (Refused 12 0) out
     unfolding answerBy textBy padded

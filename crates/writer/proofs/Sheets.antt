@@ -14,7 +14,7 @@ use Rattle.pen.specs.declared.Pen.{Pen}
 use Rattle.pen.specs.declared.Penned.{Penned}
 use Rattle.pen.specs.declared.Penned.the-variants.{Full}
 use Rattle.pen.specs.declared.Twice.{Twice}
-use Rattle.pen.specs.Lines.{Fits, Lined, LinedTwice}
+use Rattle.pen.specs.Lines.{Fits, Lined, LinedTwice, frontPen}
 use Rattle.pen.specs.Added.{Added}
 use Rattle.pen.proofs.Grown.{Grows}
 use Rattle.pen.proofs.Past.{line-some}
@@ -53,7 +53,7 @@ module _ {os cs : List ℕ} (s : Sound os cs) where
     context-lined e w = rw e at w
 
 -- a pen at the text's first byte
-pub at-front : (text : List ℕ) → Fits (record { place = 0; room = length text }) text
+pub at-front : (text : List ℕ) → Fits (frontPen text) text
 at-front text = zero-add (length text)
 
 -- the sheet behind its two head lines

@@ -7,7 +7,7 @@ ghost use lib.ListN.{length};
 ghost use Rattle.site.specs.Tables.{siteAt};
 ghost use Rattle.sheet.specs.Text.{linesText, sheetText};
 ghost use Rattle.tables.specs.Sound.{Sound};
-ghost use Rattle.pen.specs.Lines.{Fits};
+ghost use Rattle.pen.specs.Lines.{Fits, frontPen};
 ghost use Rattle.pen.specs.Added.{Added};
 ghost use Rattle.writer.specs.Calls.{Writes};
 
@@ -41,7 +41,7 @@ fn context_lines(text: &mut [u8], pen: Pen, offsets: &[u16], codes: &[u16]) -> P
 fn sheet_lines(text: &mut [u8], k: u16, offsets: &[u16], codes: &[u16]) -> Penned
     requires { ⌜ Sound (now offsets) (now codes) ⌝ }
     ensures { λ r. ⌜ Added (sheetText k (siteAt offsets codes)) (now (text .entry)) (now (text .exit))
-        (record { place = 0; room = length (now (text .entry)) }) r ⌝ }
+        (frontPen (now (text .entry))) r ⌝ }
 {
     let room = text.len();
     let ones = [k];

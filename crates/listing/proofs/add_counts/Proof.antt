@@ -2,7 +2,7 @@
 use borrow.Author.Needs.{needs}
 use native.Mathlib.Omega.{arith}
 use Rattle.listing.specs.Listing.{countsText}
-use Rattle.listing.proofs.Adding.{added-stop, added-then, added-fits}
+use Rattle.pen.proofs.Added.{added-stop, added-then, added-fits}
 use Rattle.listing.proofs.add_counts.Statement.{statement}
 use Rattle.listing.proofs.add_counts.Tie as tie
 

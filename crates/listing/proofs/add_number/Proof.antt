@@ -1,7 +1,7 @@
 -- `listing::add_number` meets its contract: the pen has moved, or there was no room.
 use borrow.Author.Needs.{needs}
 use Rattle.pen.proofs.Past.{line-some}
-use Rattle.listing.proofs.Adding.{line-on, line-full}
+use Rattle.pen.proofs.Added.{line-on, line-full}
 use Rattle.listing.proofs.add_number.Statement.{statement}
 use Rattle.listing.proofs.add_number.Tie as tie
 

@@ -1,7 +1,7 @@
 -- `listing::write_listing` meets its contract: the counts, and the entries behind them.
 use borrow.Author.Needs.{needs}
 use native.Mathlib.Omega.{arith}
-use Rattle.listing.proofs.Adding.{added-then, added-fits}
+use Rattle.pen.proofs.Added.{added-then, added-fits}
 use Rattle.listing.proofs.Putting.{text-full, put-full, put-text}
 use Rattle.listing.proofs.write_listing.Statement.{statement}
 use Rattle.listing.proofs.write_listing.Tie as tie
