@@ -44,6 +44,9 @@ examples() {
 step "layout (rt fmt --check)" rt fmt --check
 step "promises name what exists" python3 scripts/check-promises.py --finished
 step "public functions have contracts and one answer" python3 scripts/public-functions.py
+step "what is read fits the page" python3 scripts/check-page.py
+step "the reading list has all that the demands rest on" python3 scripts/check-reading.py
+step "the checks notice damage" python3 scripts/try-checks.py
 step "proofs, must-fail edits and programs (rt ci)" proofs
 step "static libraries" make --no-print-directory libraries
 step "the independent program agrees with the paper's examples" oracle

@@ -1,4 +1,4 @@
--- `agenda::top` meets its contract: each return is an arm of `topOf`.
+-- `agenda::top` meets its contract: each return is an arm of `topNode`.
 use native.Mathlib.Omega.{arith}
 use Rattle.agenda.proofs.Subtrees.{top-8, top-4, top-2, top-1}
 use Rattle.agenda.proofs.top.Statement.{statement}
