@@ -44,11 +44,11 @@ pub record Demand-1 (c : JoinCall) : Type 0 where
 -- ---- an accepted call: it tells f, e and m
 
 -- the pairs listed, and those on the trail
-abbrev pub listed : JoinCall → List Pair
-listed c = listOf inUse (callSite c) (c .k)
+abbrev pub callList : JoinCall → List Pair
+callList c = listOf inUse (callSite c) (c .k)
 
-abbrev pub trailed : JoinCall → List Pair
-trailed c = trailOf inUse (callSite c) (c .k)
+abbrev pub callTrail : JoinCall → List Pair
+callTrail c = trailOf inUse (callSite c) (c .k)
 
 -- ---- demand 2: the list
 
@@ -58,15 +58,15 @@ pub record Demand-2 (c : JoinCall) (f : ℕ) : Type 0 where
   pub held : c .list′ ≡ padded (length (c .list)) (listedWords (c .k) (callSite c))
   pub counted : f ≡ found inUse (callSite c) (c .k)
   -- each pair listed shares a code, and none is listed twice
-  pub shares : (p : Pair) → p ∈ listed c → Shares (callSite c) p
-  pub once : Distinct (listed c)
+  pub shares : (p : Pair) → p ∈ callList c → Shares (callSite c) p
+  pub once : Distinct (callList c)
   -- they are in order
-  pub sorted : Sorted (rankBefore inUse (callSite c)) (listed c)
+  pub sorted : Sorted (rankBefore inUse (callSite c)) (callList c)
   -- a pair that shares a code and is left out comes behind every pair listed
-  pub best : (p q : Pair) → Shares (callSite c) p → (p ∈ listed c → ⊥) → q ∈ listed c → rankBefore inUse (callSite c) q p ≡ true
+  pub best : (p q : Pair) → Shares (callSite c) p → (p ∈ callList c → ⊥) → q ∈ callList c → rankBefore inUse (callSite c) q p ≡ true
   -- they are k, or all if there are fewer
   pub size : f ≡ min (c .k) (length (sharing (callSite c)))
-  pub all : length (sharing (callSite c)) ≤ c .k → (p : Pair) → Shares (callSite c) p → p ∈ listed c
+  pub all : length (sharing (callSite c)) ≤ c .k → (p : Pair) → Shares (callSite c) p → p ∈ callList c
 
 -- ---- demand 3: the trail
 
@@ -78,14 +78,14 @@ pub record Demand-3 (c : JoinCall) (e m : ℕ) : Type 0 where
   pub done : e ≡ events inUse (callSite c) (c .k)
   -- exactly the pairs that share a code and whose ceiling reaches the cut-off
   pub named : (p : Pair)
-      → p ∈ trailed c ↔ (Shares (callSite c) p × (reaches (cutOff inUse (callSite c) (c .k)) (ceilingOf inUse (callSite c) p) ≡ true))
-  pub once : Distinct (trailed c)
+      → p ∈ callTrail c ↔ (Shares (callSite c) p × (reaches (cutOff inUse (callSite c) (c .k)) (ceilingOf inUse (callSite c) p) ≡ true))
+  pub once : Distinct (callTrail c)
   -- by the later event, then by the earlier one
-  pub sorted : Sorted (trailBefore inUse (callSite c)) (trailed c)
+  pub sorted : Sorted (trailBefore inUse (callSite c)) (callTrail c)
   -- ranking the trail alone gives the list
-  pub enough : topOf inUse (callSite c) (c .k) (trailed c) ≡ listed c
+  pub enough : topOf inUse (callSite c) (c .k) (callTrail c) ≡ callList c
   -- every pair that shares a code and is left off is less alike than every pair listed
-  pub less : (p q : Pair) → Shares (callSite c) p → (p ∈ trailed c → ⊥) → q ∈ listed c
+  pub less : (p q : Pair) → Shares (callSite c) p → (p ∈ callTrail c → ⊥) → q ∈ callList c
       → below (similarity inUse (callSite c) p) (similarity inUse (callSite c) q) ≡ true
 
 -- ---- of the contract as a record

@@ -52,21 +52,21 @@ pub record Few (f e m : ℕ) : Type 0 where
 
 module _ (s : Sheet) where
   -- what the checks 1 to 5 say of its tables
-  abbrev pub checked : Check
-  checked = tablesCheck (s .k) (offsetsOf (s .site)) (allCodes (s .site))
+  abbrev pub sheetChecked : Check
+  sheetChecked = tablesCheck (s .k) (offsetsOf (s .site)) (allCodes (s .site))
 
   -- its refusals, and where it has none
-  pub joined-stops : {n p : ℕ} → checked ≡ check.Refused n p → joined s ≡ refused n p
+  pub joined-stops : {n p : ℕ} → sheetChecked ≡ check.Refused n p → joined s ≡ refused n p
   unfolding joined
   joined-stops t = rw t
 
   -- over 2,048 pairs are met
-  pub joined-over : checked ≡ check.Fine → 2048 < met inUse (s .site) (s .k) → joined s ≡ refused 8 0
+  pub joined-over : sheetChecked ≡ check.Fine → 2048 < met inUse (s .site) (s .k) → joined s ≡ refused 8 0
   unfolding joined
   joined-over t h = rw (t, lt-ltb 2048 (met inUse (s .site) (s .k)) h)
 
   -- nothing is refused
-  pub joined-is : checked ≡ check.Fine → met inUse (s .site) (s .k) ≤ 2048 → joined s ≡ value s
+  pub joined-is : sheetChecked ≡ check.Fine → met inUse (s .site) (s .k) ≤ 2048 → joined s ≡ value s
   unfolding joined
   joined-is t h = rw (t, le-ltb 2048 (met inUse (s .site) (s .k)) h)
 
@@ -132,7 +132,7 @@ module _ {c : JoinCall} (j : Joins c) (rooms : Rooms c) where
     same-met = λ i. met inUse (same-site i) (asked i)
 
     -- and the checks say the same
-    same-check : checked s ≡ tablesCheck (c .k) (c .offsets) (c .codes)
+    same-check : sheetChecked s ≡ tablesCheck (c .k) (c .offsets) (c .codes)
     same-check = λ i. tablesCheck (sym asked i) (sym offsets i) (sym codes i)
 
     -- whatever causes a refusal of the join refuses the sheet: 6 and 7 cannot arise

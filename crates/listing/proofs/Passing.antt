@@ -23,7 +23,7 @@ use Rattle.listing.specs.Listing.{joined}
 use Rattle.listing.specs.Inside.{countsOf, SheetJoined}
 use Rattle.listing.specs.declared.Joined.{Joined}
 use Rattle.listing.specs.declared.Joined.the-variants as told
-use Rattle.listing.proofs.Joining.{checked, joined-stops, joined-over, joined-is, events-few}
+use Rattle.listing.proofs.Joining.{sheetChecked, joined-stops, joined-over, joined-is, events-few}
 
 -- ---- the counts that were told
 
@@ -60,7 +60,7 @@ pub record Passed (s : Sheet) : Type 0 where
   pub met : met inUse (s .site) (s .k) ≤ 2048
 
 -- a sheet that is joined is unchanged, and it passed
-passed-by : (s : Sheet) (c : Check) → checked s ≡ c → {x : Sheet} → joined s ≡ value x → (s ≡ x) × Passed s
+passed-by : (s : Sheet) (c : Check) → sheetChecked s ≡ c → {x : Sheet} → joined s ≡ value x → (s ≡ x) × Passed s
 passed-by s (check.Refused n p) t e = no-value (sym (joined-stops s t) ∙ e)
 passed-by s check.Fine t {x} e =
     let a = accepted (s .k) (offsetsOf (s .site)) (allCodes (s .site)) t in

@@ -18,7 +18,7 @@ use Rattle.pen.specs.declared.Pen.{Pen}
 use Rattle.sheet.specs.Read.{Read, value, refused, _then_}
 use Rattle.sheet.specs.Reading.{Sheet, readSheet}
 use Rattle.sheet.proofs.Tables.{front-fits}
-use Rattle.listing.specs.Listing.{linesText, listingText, joined, listed, listingOf, fitted, listingIn}
+use Rattle.listing.specs.Listing.{listingLines, listingText, joined, listed, listingOf, fitted, listingIn}
 use Rattle.listing.specs.Answers.{listingBy, bytesOf}
 use Rattle.listing.specs.Inside.{listRoom, SheetJoined, Put, PutText}
 use Rattle.pen.specs.Added.{Added}
@@ -92,13 +92,13 @@ module _ (sheet : List ℕ) (room : ℕ) where
 
     -- what the counts and the entries are written for
     pub put-counts : {k f e m : ℕ} → j ≡ told.Counts k f e m → {now : List ℕ} {r : Listing}
-        → Put (fitted room (linesText k f e m (entries f list))) now r → Put (listingIn room sheet) now r
+        → Put (fitted room (listingLines k f e m (entries f list))) now r → Put (listingIn room sheet) now r
     unfolding listingIn listingOf listingText
     put-counts {k} {f} {e} {m} q {now} {r} w =
         let c = counted _ (sym (t .answer) ∙ q) in
         let s = c .sheet in
         let b = entries-back s (found-few (joined-passed (readSheet 257 4096 sheet) (c .is))) (c .found) (t .held s (c .is)) in
-        let x : linesText k f e m (entries f list) ≡ listingText (s .k) (s .site) = λ i. linesText (c .asked i) (c .found i) (c .events i) (c .met i) (b i) in
+        let x : listingLines k f e m (entries f list) ≡ listingText (s .k) (s .site) = λ i. listingLines (c .asked i) (c .found i) (c .events i) (c .met i) (b i) in
         rw (listed-is, c .is) (subst (λ (l : List ℕ). Put (fitted room l) now r) x w)
 
 -- ---- zeros behind it

@@ -24,7 +24,7 @@ use Rattle.sheet.proofs.NinePlace.{earliest}
 use Rattle.sheet.proofs.Refusal.{then-refused, same-refusal}
 use Rattle.sheet.proofs.Tables.{offsets-length}
 use Rattle.listing.specs.Listing.{joined, listed, listingOf, fitted, listingIn}
-use Rattle.listing.proofs.Joining.{checked, joined-stops, joined-over, joined-is}
+use Rattle.listing.proofs.Joining.{sheetChecked, joined-stops, joined-over, joined-is}
 
 -- a number and a place of a refusal
 pub record SmallRefusal (n p : ℕ) : Type 0 where
@@ -57,7 +57,7 @@ breaks-small l m (large-code h w) = record { some = omega arith; number = omega 
 breaks-small l m (code-falls h c w) = record { some = omega arith; number = omega arith; place = omega arith }
 
 -- of a sheet that was read
-joined-small : (s : Sheet) (c : Check) → checked s ≡ c → {n p : ℕ}
+joined-small : (s : Sheet) (c : Check) → sheetChecked s ≡ c → {n p : ℕ}
     → length (offsetsOf (s .site)) ≤ 257 → length (allCodes (s .site)) ≤ 4096 → joined s ≡ refused n p → SmallRefusal n p
 joined-small s (check.Refused m q) t l k e =
     let b = breaks-small l k (refused-exactly (s .k) (offsetsOf (s .site)) (allCodes (s .site)) m q .0 t .here) in
@@ -98,12 +98,12 @@ unfolding listingIn fitted
 twelve-told room sheet text e h = rw (e, lt-ltb room (length text) h)
 
 -- the numbers of all refusals
-pub record Numbered (n : ℕ) : Type 0 where
+pub record ListingNumbered (n : ℕ) : Type 0 where
   pub some : 0 < n
   pub most : n ≤ 12
 
 -- 12 among them
-pub listing-numbered : (room : ℕ) (sheet : List ℕ) {n p : ℕ} → listingIn room sheet ≡ refused n p → Numbered n
+pub listing-numbered : (room : ℕ) (sheet : List ℕ) {n p : ℕ} → listingIn room sheet ≡ refused n p → ListingNumbered n
 unfolding listingIn fitted
 listing-numbered room sheet {n} {p} e = then-refused (listingOf sheet) _ e
     (λ f. let s = refusal-small sheet f in record { some = s .some; most = omega (arith, s .number) })

@@ -55,13 +55,13 @@ unfoldable pub countsText : ℕ → ℕ → ℕ → ℕ → List ℕ
 countsText k f e m = lineText kKey (k ∷ []) ++ lineText foundKey (f ∷ []) ++ lineText eventsKey (e ∷ []) ++ lineText metKey (m ∷ [])
 
 -- k, the three counts, and one line an entry
-abbrev pub linesText : ℕ → ℕ → ℕ → ℕ → List Entry → List ℕ
-linesText k f e m entries = countsText k f e m ++ entriesText entries
+abbrev pub listingLines : ℕ → ℕ → ℕ → ℕ → List Entry → List ℕ
+listingLines k f e m entries = countsText k f e m ++ entriesText entries
 
 -- those of a site: found, events and met, and the entries of its list
 unfoldable pub listingText : ℕ → Site → List ℕ
 listingText k site =
-    linesText k (found inUse site k) (events inUse site k) (met inUse site k) (map (entryOf site) (listOf inUse site k))
+    listingLines k (found inUse site k) (events inUse site k) (met inUse site k) (map (entryOf site) (listOf inUse site k))
 
 -- the one line of a refusal: number and place
 unfoldable pub refusedText : ℕ → ℕ → List ℕ

@@ -15,7 +15,7 @@ ghost use Rattle.pen.specs.Lines.{Fits};
 ghost use Rattle.sheet.specs.Read.{_then_};
 ghost use Rattle.sheet.specs.Reading.{readSheet};
 ghost use Rattle.sheet.specs.Text.{lineText};
-ghost use Rattle.listing.specs.Listing.{countsText, entriesText, linesText, joined, listingIn, refusedText};
+ghost use Rattle.listing.specs.Listing.{countsText, entriesText, listingLines, joined, listingIn, refusedText};
 ghost use Rattle.listing.specs.Inside.{listRoom, SheetJoined, TablesJoined, Put, PutText};
 ghost use Rattle.pen.specs.Added.{Added};
 ghost use Rattle.pen.specs.Lines.{frontPen};
@@ -167,7 +167,7 @@ fn write_listing(
     list: &[u16],
 ) -> Listing
     requires { ⌜ width * found ≤ length (now list) ⌝ }
-    ensures { λ r. ⌜ PutText (linesText k found events met (entries found (now (list .entry)))) (now (text .entry)) (now (text .exit)) r ⌝ }
+    ensures { λ r. ⌜ PutText (listingLines k found events met (entries found (now (list .entry)))) (now (text .entry)) (now (text .exit)) r ⌝ }
 {
     let r = add_counts(text, k, found, events, met);
     let Penned::On(p) = r else {

@@ -21,8 +21,8 @@ unfoldable pub fourWords : ℕ → List ℕ → List ℕ
 fourWords number values = padded 4 (number ∷ values)
 
 -- they stand at the front of the lent answer, the rest is as it was
-abbrev pub told : List ℕ → List ℕ → List ℕ
-told words old = words ++ drop 4 old
+abbrev pub atFront : List ℕ → List ℕ → List ℕ
+atFront words old = words ++ drop 4 old
 
 -- ---- what a call leaves: nothing is done where the answer has under four words
 
@@ -39,7 +39,7 @@ afterJoin list work trail answer = record { list = list; work = work; trail = tr
 
 -- the outcome of a join, in words
 abbrev pub joinLeft : Outcome → List ℕ → AfterJoin
-joinLeft o old = afterJoin (o .list) (o .work) (o .trail) (told (fourWords (answerNumber (o .answer)) (answerValues (o .answer))) old)
+joinLeft o old = afterJoin (o .list) (o .work) (o .trail) (atFront (fourWords (answerNumber (o .answer)) (answerValues (o .answer))) old)
 
 -- what `probe_join` leaves
 unfoldable pub probeJoin : ℕ → List ℕ → List ℕ → List ℕ → List ℕ → List ℕ → List ℕ → AfterJoin
@@ -60,7 +60,7 @@ afterRead offsets codes answer = record { offsets = offsets; codes = codes; answ
 unfoldable pub probeRead : List ℕ → List ℕ → List ℕ → List ℕ → AfterRead
 probeRead sheet offsets codes old =
     let x = readingAt offsets codes sheet in
-    let answer = told (fourWords (readNumber x) (readValues sheetValues x)) old in
+    let answer = atFront (fourWords (readNumber x) (readValues sheetValues x)) old in
     cond (ltb (length old) 4)
     (afterRead offsets codes old)
     (afterRead (padded (length offsets) (offsetsBy x)) (padded (length codes) (codesBy x)) answer)
@@ -80,4 +80,4 @@ probeWrite k offsets codes text old =
     let x = tablesCheck k offsets codes in
     let s = sheetText k (siteOf offsets codes) in
     let r = answerBy x s (length text) in
-    cond (ltb (length old) 4) (afterWrite text old) (afterWrite (textBy x s text) (told (fourWords (writingNumber r) (writingValues r)) old))
+    cond (ltb (length old) 4) (afterWrite text old) (afterWrite (textBy x s text) (atFront (fourWords (writingNumber r) (writingValues r)) old))

@@ -7,7 +7,7 @@ ghost use lib.ListN.{length};
 ghost use Rattle.search.specs.Outcome.{answerNumber, answerValues};
 ghost use Rattle.reader.specs.Answers.{readingNumber, readingValues};
 ghost use Rattle.writer.specs.Writes.{writingNumber, writingValues};
-ghost use Rattle.probe.specs.Probe.{fourWords, told, afterJoin, probeJoin, afterRead, probeRead, afterWrite, probeWrite};
+ghost use Rattle.probe.specs.Probe.{fourWords, atFront, afterJoin, probeJoin, afterRead, probeRead, afterWrite, probeWrite};
 use join::Answer;
 use join::join;
 use reader::Reading;
@@ -18,7 +18,7 @@ use writer::write;
 // Writes four words at the front.
 fn put(answer: &mut [u64], a: u64, b: u64, c: u64, d: u64)
     requires { ⌜ 4 ≤ length (now answer) ⌝ }
-    ensures { λ _. ⌜ now (answer .exit) ≡ told (a ∷ b ∷ c ∷ d ∷ []) (now (answer .entry)) ⌝ }
+    ensures { λ _. ⌜ now (answer .exit) ≡ atFront (a ∷ b ∷ c ∷ d ∷ []) (now (answer .entry)) ⌝ }
 {
     answer[0] = a;
     answer[1] = b;
@@ -29,7 +29,7 @@ fn put(answer: &mut [u64], a: u64, b: u64, c: u64, d: u64)
 // The words of a join's answer.
 fn put_join(answer: &mut [u64], r: Answer)
     requires { ⌜ 4 ≤ length (now answer) ⌝ }
-    ensures { λ _. ⌜ now (answer .exit) ≡ told (fourWords (answerNumber r) (answerValues r)) (now (answer .entry)) ⌝ }
+    ensures { λ _. ⌜ now (answer .exit) ≡ atFront (fourWords (answerNumber r) (answerValues r)) (now (answer .entry)) ⌝ }
 {
     match r {
         Answer::Listed { found, events, met } => {
@@ -42,7 +42,7 @@ fn put_join(answer: &mut [u64], r: Answer)
 // The words of a reading.
 fn put_read(answer: &mut [u64], r: Reading)
     requires { ⌜ 4 ≤ length (now answer) ⌝ }
-    ensures { λ _. ⌜ now (answer .exit) ≡ told (fourWords (readingNumber r) (readingValues r)) (now (answer .entry)) ⌝ }
+    ensures { λ _. ⌜ now (answer .exit) ≡ atFront (fourWords (readingNumber r) (readingValues r)) (now (answer .entry)) ⌝ }
 {
     match r {
         Reading::Sheet { k, contexts, codes } => {
@@ -55,7 +55,7 @@ fn put_read(answer: &mut [u64], r: Reading)
 // The words of the writer's answer.
 fn put_write(answer: &mut [u64], r: Writing)
     requires { ⌜ 4 ≤ length (now answer) ⌝ }
-    ensures { λ _. ⌜ now (answer .exit) ≡ told (fourWords (writingNumber r) (writingValues r)) (now (answer .entry)) ⌝ }
+    ensures { λ _. ⌜ now (answer .exit) ≡ atFront (fourWords (writingNumber r) (writingValues r)) (now (answer .entry)) ⌝ }
 {
     match r {
         Writing::Written(length) => put(answer, 0, length as u64, 0, 0),

@@ -18,7 +18,7 @@ use Rattle.sheet.proofs.Refusal.{Late, then-refused, late-then, by-refu
 use Rattle.sheet.proofs.Numbers.{take-in, in-within}
 use Rattle.sheet.proofs.Numerals.{in-numeral, number-digits, number-read}
 use Rattle.sheet.proofs.ReadsBack.{words-of, context-some, codes-length}
-use Rattle.sheet.proofs.WritesBack.{joined, split-join}
+use Rattle.sheet.proofs.WritesBack.{rejoined, split-join}
 
 -- p is m bytes behind `at`; the m bytes of l before it begin the text of v, of which nothing is refused before p
 pub record Begun {A : Type 0} (text : A → List ℕ) (read : ℕ → List ℕ → Read A) (at : ℕ) (l : List ℕ) (p : ℕ) : Type 0 where
@@ -66,13 +66,13 @@ codes-more n [] h = absurd (omega arith)
 codes-more n (m ∷ ns) h = refl
 
 -- the first piece is in front
-pub joined-front : (b : ℕ) (w : List ℕ) (ws : List (List ℕ)) → (t : List ℕ) × (joined b (w ∷ ws) ≡ w ++ t)
-unfolding joined
+pub joined-front : (b : ℕ) (w : List ℕ) (ws : List (List ℕ)) → (t : List ℕ) × (rejoined b (w ∷ ws) ≡ w ++ t)
+unfolding rejoined
 joined-front b w [] = ([], sym (append-nil w))
-joined-front b w (u ∷ us) = (b ∷ joined b (u ∷ us), refl)
+joined-front b w (u ∷ us) = (b ∷ rejoined b (u ∷ us), refl)
 
-pub joined-more : (b : ℕ) (w : List ℕ) (ws : List (List ℕ)) → 0 < length ws → joined b (w ∷ ws) ≡ w ++ b ∷ joined b ws
-unfolding joined
+pub joined-more : (b : ℕ) (w : List ℕ) (ws : List (List ℕ)) → 0 < length ws → rejoined b (w ∷ ws) ≡ w ++ b ∷ rejoined b ws
+unfolding rejoined
 joined-more b w [] h = absurd (omega arith)
 joined-more b w (u ∷ us) h = refl
 
@@ -82,7 +82,7 @@ codes-some most used at [] e = no-value (sym e)
 codes-some most used at (w ∷ ws) e = omega arith
 
 codes-begun : (most used at : ℕ) (ws : List (List ℕ)) {n p : ℕ} → codesRead most used at ws ≡ refused n p
-    → (b : Begun codesText (contextOf most used) at (joined 32 ws) p) × (0 < length (b .v))
+    → (b : Begun codesText (contextOf most used) at (rejoined 32 ws) p) × (0 < length (b .v))
 unfolding codesRead
 codes-begun most used at [] e = no-value (sym e)
 codes-begun most used at (w ∷ ws) {n} {p} e =

@@ -13,7 +13,7 @@ use Rattle.sheet.proofs.Pieces.{split-some}
 use Rattle.sheet.proofs.Lines.{no-value}
 use Rattle.sheet.proofs.Refusal.{Late, then-refused, late-then}
 use Rattle.sheet.proofs.ReadsBack.{split-cut}
-use Rattle.sheet.proofs.WritesBack.{joined, line-written}
+use Rattle.sheet.proofs.WritesBack.{rejoined, line-written}
 use Rattle.sheet.proofs.Begun.{Begun, begun-none, joined-front}
 use Rattle.sheet.proofs.FirstLine.{line-none, line-no, line-on, by-line, line-got}
 use Rattle.sheet.proofs.Follows.{Follows}
@@ -24,7 +24,7 @@ pub record Started {B : Type 0} (Good : List ℕ → Type 0) (read : ℕ → Lis
   pub m : ℕ
   pub good : Good t
   pub place : p ≡ at + m
-  pub alike : Alike m (joined 10 ls) t
+  pub alike : Alike m (rejoined 10 ls) t
   pub late : Late p (read at (split 10 t))
 
 pub record Continues {B : Type 0} (Good : List ℕ → Type 0) (read : ℕ → List (List ℕ) → Read B) : Type 0 where
@@ -48,9 +48,9 @@ agree-some (inside ls ks a) = (omega arith, omega arith)
 agree-some (beyond n l e a) = (omega arith, omega arith)
 
 module _ {A : Type 0} {text : A → List ℕ} {read : ℕ → List ℕ → Read A} (R : Follows text read) where
-  line-begun : (at : ℕ) (ls : List (List ℕ)) {n p : ℕ} → line read at ls ≡ refused n p → Begun text read at (joined 10 ls) p
+  line-begun : (at : ℕ) (ls : List (List ℕ)) {n p : ℕ} → line read at ls ≡ refused n p → Begun text read at (rejoined 10 ls) p
   line-begun at [] e =
-      begun-none text read at (joined 10 []) (R .plain) (line-none read at e .1) (λ x y f. let b = R .begun at (text (R .plain)) f in omega (arith, b .place))
+      begun-none text read at (rejoined 10 []) (R .plain) (line-none read at e .1) (λ x y f. let b = R .begun at (text (R .plain)) f in omega (arith, b .place))
   line-begun at (l ∷ ls) e =
       let j = joined-front 10 l ls in
       by-line read at l ls e

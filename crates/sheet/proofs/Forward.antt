@@ -19,7 +19,7 @@ use Rattle.sheet.proofs.Numbers.{in-within}
 use Rattle.sheet.proofs.Numerals.{number-digits}
 use Rattle.sheet.proofs.Pieces.{split-some}
 use Rattle.sheet.proofs.ReadsBack.{Free, free-append, digits-free, codes-free, split-cut, cut-line, behind-key, line-first, context-some, context-read}
-use Rattle.sheet.proofs.WritesBack.{joined, split-join}
+use Rattle.sheet.proofs.WritesBack.{rejoined, split-join}
 use Rattle.sheet.proofs.FirstLine.{line-no}
 use Rattle.sheet.proofs.Over.{Over, above, no-room, joined-ends}
 
@@ -34,7 +34,7 @@ over-digits (no-room q d s r) = d
 
 -- the first piece of a text has its first digits
 first-digits : (b : ℕ) (t w : List ℕ) (ws : List (List ℕ)) → b < 48 → split b t ≡ w ∷ ws → digitsIn t ≡ digitsIn w
-first-digits b t w ws h e = let j = joined-ends b w ws h in ap digitsIn (sym (split-join b t) ∙ ap (joined b) e ∙ j .1) ∙ j .2 w
+first-digits b t w ws h e = let j = joined-ends b w ws h in ap digitsIn (sym (split-join b t) ∙ ap (rejoined b) e ∙ j .1) ∙ j .2 w
 
 split-before : (b : ℕ) (x t w : List ℕ) (ws : List (List ℕ)) → Free b x → split b t ≡ w ∷ ws → split b (x ++ t) ≡ (x ++ w) ∷ ws
 unfolding split onFirst

@@ -14,7 +14,7 @@ use Rattle.words.specs.Words.{Words16}
 use Rattle.sheet.specs.Meaning.{spaced}
 use Rattle.sheet.proofs.Refusal.{then-refused}
 use Rattle.sheet.proofs.Lines.{no-value}
-use Rattle.sheet.proofs.WritesBack.{joined, behind-read, line-written, context-written}
+use Rattle.sheet.proofs.WritesBack.{rejoined, behind-read, line-written, context-written}
 use Rattle.sheet.proofs.Accepted.{context-fit}
 use Rattle.sheet.proofs.FirstLine.{nothing-nine}
 use Rattle.sheet.proofs.Over.{Over, CodeOver, context-over, behind-over, line-over}
@@ -62,22 +62,22 @@ lines-next {used = used} c t v z o =
 
 -- a line of codes that was read
 codes-line : (most used at : ℕ) (ls : List (List ℕ)) {x : Line (List ℕ)} → used ≤ most → line (behind cKey (contextOf most used)) at ls ≡ value x
-    → (joined 10 ls ≡ (cKey ++ codesText (x .got)) ++ 10 ∷ joined 10 (x .lines)) × (x .next ≡ at + length (cKey ++ codesText (x .got)) + 1) × Words16 (x .got) × (used + length (x .got) ≤ most)
+    → (rejoined 10 ls ≡ (cKey ++ codesText (x .got)) ++ 10 ∷ rejoined 10 (x .lines)) × (x .next ≡ at + length (cKey ++ codesText (x .got)) + 1) × Words16 (x .got) × (used + length (x .got) ≤ most)
 codes-line most used at ls {x} k f =
     let a = line-written (behind cKey (contextOf most used)) at ls f in
     let b = behind-read cKey (contextOf most used) at (a .0) (a .1) in
     let w : a .0 ≡ cKey ++ codesText (x .got) = b .2 ∙ ap (λ (l : List ℕ). cKey ++ l) (context-written most used (b .0) (b .1) (b .3)) in
     let c = context-fit most used (b .0) (b .1) k (b .3) in
-    (a .2 ∙ ap (λ (l : List ℕ). l ++ 10 ∷ joined 10 (x .lines)) w, a .3 ∙ ap (λ (l : List ℕ). at + length l + 1) w, c .0, c .1)
+    (a .2 ∙ ap (λ (l : List ℕ). l ++ 10 ∷ rejoined 10 (x .lines)) w, a .3 ∙ ap (λ (l : List ℕ). at + length l + 1) w, c .0, c .1)
 
 -- one that is refused
-codes-line-over : (most owed used at : ℕ) (ls : List (List ℕ)) {m p : ℕ} → used ≤ most → (m ≡ 9 → ⊥) → line (behind cKey (contextOf most used)) at ls ≡ refused m p → LinesOver most (suc owed) used m at p (joined 10 ls)
+codes-line-over : (most owed used at : ℕ) (ls : List (List ℕ)) {m p : ℕ} → used ≤ most → (m ≡ 9 → ⊥) → line (behind cKey (contextOf most used)) at ls ≡ refused m p → LinesOver most (suc owed) used m at p (rejoined 10 ls)
 codes-line-over most owed used at ls k h f =
     let a = line-over (behind cKey (contextOf most used)) at ls f h in
     let b = behind-over cKey (contextOf most used) at (a .0) (a .4) h in
     rw (a .2, b .1) (lines-here (b .0) (a .1) (a .3) (context-over most used (at + 2) (b .0) (b .2) h k))
 
-pub lines-over : (most n used at : ℕ) (ls : List (List ℕ)) {m p : ℕ} → linesOf most n used at ls ≡ refused m p → (m ≡ 9 → ⊥) → used ≤ most → LinesOver most n used m at p (joined 10 ls)
+pub lines-over : (most n used at : ℕ) (ls : List (List ℕ)) {m p : ℕ} → linesOf most n used at ls ≡ refused m p → (m ≡ 9 → ⊥) → used ≤ most → LinesOver most n used m at p (rejoined 10 ls)
 unfolding linesOf
 lines-over most zero used at ls e h k = absurd (h (nothing-nine at ls e .0))
 lines-over most (suc n) used at ls e h k =
@@ -85,5 +85,5 @@ lines-over most (suc n) used at ls e h k =
     (codes-line-over most n used at ls k h)
     (λ x f g. then-refused (linesOf most n (used + length (x .got)) (x .next) (x .lines)) _ g
     (λ r. let a = codes-line most used at ls k f in
-    rw (a .0) (lines-next (x .got) (joined 10 (x .lines)) (a .2) (a .1) (lines-over most n (used + length (x .got)) (x .next) (x .lines) r h (a .3))))
+    rw (a .0) (lines-next (x .got) (rejoined 10 (x .lines)) (a .2) (a .1) (lines-over most n (used + length (x .got)) (x .next) (x .lines) r h (a .3))))
     (λ c r z. no-value (sym z)))

@@ -15,7 +15,7 @@ use Rattle.sheet.proofs.Alike.{alike-none, alike-is, alike-sooner, Agre
 use Rattle.sheet.proofs.Lines.{no-value}
 use Rattle.sheet.proofs.Refusal.{then-refused, late-then}
 use Rattle.sheet.proofs.ReadsBack.{free-key}
-use Rattle.sheet.proofs.WritesBack.{joined, split-join}
+use Rattle.sheet.proofs.WritesBack.{rejoined, split-join}
 use Rattle.sheet.proofs.FirstLine.{nothing-nine}
 use Rattle.sheet.proofs.Follows.{number-follows, context-follows, behind-follows}
 use Rattle.sheet.proofs.Continues.{Continues, AfterLine, agree-some, line-continues}
@@ -43,7 +43,7 @@ nothing-continues : Continues (λ t. t ≡ []) nothing
 unfolding nothing split
 nothing-continues = record {
   some = ([], refl);
-  started = λ at ls e. record { t = []; m = 0; good = refl; place = omega (arith, nothing-nine at ls e .1); alike = alike-none (joined 10 ls) []; late = λ n q f. no-value (sym f) };
+  started = λ at ls e. record { t = []; m = 0; good = refl; place = omega (arith, nothing-nine at ls e .1); alike = alike-none (rejoined 10 ls) []; late = λ n q f. no-value (sym f) };
   steady = nothing-steady;
 }
 

@@ -13,7 +13,7 @@ use Rattle.sheet.specs.Reading.{behind, roomAfter, Line, line, linesOf, 
 use Rattle.sheet.specs.Meaning.{Which, of-k, of-contexts, of-code, spaced, textBefore, InRange}
 use Rattle.sheet.proofs.Refusal.{then-refused}
 use Rattle.sheet.proofs.Lines.{no-value, ReadSmall}
-use Rattle.sheet.proofs.WritesBack.{joined, split-join, line-written, number-written}
+use Rattle.sheet.proofs.WritesBack.{rejoined, split-join, line-written, number-written}
 use Rattle.sheet.proofs.Accepted.{number-fits}
 use Rattle.sheet.proofs.Follows.{number-follows, behind-written}
 use Rattle.sheet.proofs.LinesOver.{LinesOver, lines-over}
@@ -35,7 +35,7 @@ pub record NumberFound (offsets codes n p : ℕ) (s : List ℕ) : Type 0 where
 
 -- a line of a number, read
 number-line : (key : List ℕ) (room at : ℕ) (ls : List (List ℕ)) {x : Line ℕ} → line (behind key (numberOf room)) at ls ≡ value x
-    → (joined 10 ls ≡ numberText key (x .got) ++ joined 10 (x .lines)) × (x .next ≡ at + length (numberText key (x .got))) × ReadSmall room (x .got)
+    → (rejoined 10 ls ≡ numberText key (x .got) ++ rejoined 10 (x .lines)) × (x .next ≡ at + length (numberText key (x .got))) × ReadSmall room (x .got)
 unfolding lineText codesText
 number-line key room at ls {x} f =
     let a = line-written (behind key (numberOf room)) at ls f in
@@ -44,7 +44,7 @@ number-line key room at ls {x} f =
 
 -- and refused
 number-line-over : (key : List ℕ) (room at : ℕ) (ls : List (List ℕ)) {n p : ℕ} → line (behind key (numberOf room)) at ls ≡ refused n p → (n ≡ 9 → ⊥)
-    → (rest : List ℕ) × (joined 10 ls ≡ key ++ rest) × (p ≡ at + length key) × Over room n (digitsIn rest)
+    → (rest : List ℕ) × (rejoined 10 ls ≡ key ++ rest) × (p ≡ at + length key) × Over room n (digitsIn rest)
 number-line-over key room at ls f h =
     let a = line-over (behind key (numberOf room)) at ls f h in
     let b = behind-over key (numberOf room) at (a .0) (a .4) h in
@@ -98,8 +98,8 @@ module _ (offsets codes : ℕ) where
       (λ f. found-k s (rw (split-join 10 s) at (number-line-over kKey 65536 0 (split 10 s) f h)))
       (λ k f g. let a = number-line kKey 65536 0 (split 10 s) f in let w = sym (split-join 10 s) ∙ a .0 in
       then-refused (line (behind contextsKey (numberOf (min 257 offsets))) (k .next) (k .lines)) _ g
-      (λ r. found-contexts s (joined 10 (k .lines)) (k .got) (k .next) (a .2 .few) w (a .1) (number-line-over contextsKey (min 257 offsets) (k .next) (k .lines) r h))
+      (λ r. found-contexts s (rejoined 10 (k .lines)) (k .got) (k .next) (a .2 .few) w (a .1) (number-line-over contextsKey (min 257 offsets) (k .next) (k .lines) r h))
       (λ c r z. let b = number-line contextsKey (min 257 offsets) (k .next) (k .lines) r in
       then-refused (linesOf (min 4096 codes) (c .got) 0 (c .next) (c .lines)) _ z
-      (λ i. found-code s (joined 10 (k .lines)) (joined 10 (c .lines)) (k .got) (k .next) (c .got) (c .next) (a .2 .few) (b .2 .fits) w (a .1) (b .0) (b .1) (lines-over (min 4096 codes) (c .got) 0 (c .next) (c .lines) i h zero-le))
+      (λ i. found-code s (rejoined 10 (k .lines)) (rejoined 10 (c .lines)) (k .got) (k .next) (c .got) (c .next) (a .2 .few) (b .2 .fits) w (a .1) (b .0) (b .1) (lines-over (min 4096 codes) (c .got) 0 (c .next) (c .lines) i h zero-le))
       (λ y i j. no-value (sym j))))

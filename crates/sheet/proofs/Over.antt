@@ -17,7 +17,7 @@ use Rattle.sheet.proofs.Numbers.{by-digit, in-none, in-zero, in-run}
 use Rattle.sheet.proofs.Numerals.{number-read}
 use Rattle.sheet.proofs.Lines.{no-value, number-small, room-left}
 use Rattle.sheet.proofs.Refusal.{then-refused, same-refusal, by-refusal}
-use Rattle.sheet.proofs.WritesBack.{joined, split-join}
+use Rattle.sheet.proofs.WritesBack.{rejoined, split-join}
 use Rattle.sheet.proofs.FirstLine.{line-none, by-line}
 use Rattle.sheet.proofs.Begun.{joined-more, codes-some}
 
@@ -45,10 +45,10 @@ in-stop b (c ∷ r) t h =
     (λ n. in-run c (r ++ b ∷ t) n ∙ run-stop b (c ∷ r) t h ∙ sym (in-run c r n))
 
 -- what is behind a piece has no part in the digits at its end
-pub joined-ends : (b : ℕ) (w : List ℕ) (ws : List (List ℕ)) → b < 48 → (t : List ℕ) × (joined b (w ∷ ws) ≡ w ++ t) × ((r : List ℕ) → digitsIn (r ++ t) ≡ digitsIn r)
-unfolding joined
+pub joined-ends : (b : ℕ) (w : List ℕ) (ws : List (List ℕ)) → b < 48 → (t : List ℕ) × (rejoined b (w ∷ ws) ≡ w ++ t) × ((r : List ℕ) → digitsIn (r ++ t) ≡ digitsIn r)
+unfolding rejoined
 joined-ends b w [] h = ([], sym (append-nil w), λ r. ap digitsIn (append-nil r))
-joined-ends b w (u ∷ us) h = (b ∷ joined b (u ∷ us), refl, λ r. in-stop b r (joined b (u ∷ us)) h)
+joined-ends b w (u ∷ us) h = (b ∷ rejoined b (u ∷ us), refl, λ r. in-stop b r (rejoined b (u ∷ us)) h)
 
 -- the codes cs before the number, and the rest of the line from it on
 pub record CodeOver (most used n at p : ℕ) (l : List ℕ) : Type 0 where
@@ -75,13 +75,13 @@ code-next {used = used} a w b d i =
       over = rw (← q) (i .over);
     }
 
-codes-over : (most used at : ℕ) (ws : List (List ℕ)) {n p : ℕ} → codesRead most used at ws ≡ refused n p → (n ≡ 9 → ⊥) → used ≤ most → CodeOver most used n at p (joined 32 ws)
+codes-over : (most used at : ℕ) (ws : List (List ℕ)) {n p : ℕ} → codesRead most used at ws ≡ refused n p → (n ≡ 9 → ⊥) → used ≤ most → CodeOver most used n at p (rejoined 32 ws)
 unfolding codesRead spaced
 codes-over most used at [] e h k = no-value (sym e)
 codes-over most used at (w ∷ ws) {n} {p} e h k =
     then-refused (numberOf (roomAfter most used) at w) _ e
     (λ f. let j = joined-ends 32 w ws (omega arith) in let o = number-over _ at w f h in
-    record { cs = []; rest = joined 32 (w ∷ ws); whole = refl; place = omega (arith, o .0); words = tt; fits = omega arith; over = rw (j .1, j .2 w, add-zero) (o .1) })
+    record { cs = []; rest = rejoined 32 (w ∷ ws); whole = refl; place = omega (arith, o .0); words = tt; fits = omega arith; over = rw (j .1, j .2 w, add-zero) (o .1) })
     (λ a f g. then-refused (codesRead most (suc used) (at + length w + 1) ws) _ g
     (λ r. let v = number-small _ at w f in
     rw (joined-more 32 w ws (codes-some _ _ _ ws r))
@@ -106,7 +106,7 @@ behind-over (x ∷ key) read at (b ∷ l) e h =
 
 -- a line refused with 10 or 11: what is behind it has no part in the digits
 pub line-over : {A : Type 0} (read : ℕ → List ℕ → Read A) (at : ℕ) (ls : List (List ℕ)) {n p : ℕ} → line read at ls ≡ refused n p → (n ≡ 9 → ⊥)
-    → (l : List ℕ) × (t : List ℕ) × (joined 10 ls ≡ l ++ t) × ((r : List ℕ) → digitsIn (r ++ t) ≡ digitsIn r) × (read at l ≡ refused n p)
+    → (l : List ℕ) × (t : List ℕ) × (rejoined 10 ls ≡ l ++ t) × ((r : List ℕ) → digitsIn (r ++ t) ≡ digitsIn r) × (read at l ≡ refused n p)
 line-over read at [] e h = absurd (h (line-none read at e .0))
 line-over read at (l ∷ ls) e h =
     let j = joined-ends 10 l ls (omega arith) in

@@ -40,8 +40,8 @@ use Rattle.pen.proofs.Pen as P
 use Rattle.pen.proofs.Pen.Laws as P′
 use Rattle.pen.proofs.PenCell.{R, mach, pen-is, pen-typed}
 use Rattle.pen.proofs.Past.{fits-on}
-use Rattle.pen.proofs.Passed.{Passed, token, slot, Text, holding}
-use Rattle.pen.proofs.Lending.{Line, lends-both}
+use Rattle.pen.proofs.Passed.{LentSlice, token, slot, Text, holding}
+use Rattle.pen.proofs.Lending.{LineTriple, lends-both}
 use Rattle.pen.proofs.line.Symbol as line-def
 use Rattle.pen.proofs.line.Symbol.{name as #pen·line}
 use Rattle.pen.proofs.line.Met as line-thm
@@ -54,7 +54,7 @@ use Rattle.pen.proofs.line_by.Code as code
 abbrev stayed : Stays (line-by.ended .signature .params) (line-by.ended .kept)
 stayed = (stay-slice (0 ∷ []) tt (plain (λ _. u8)), (stay-dropped (plain (λ _. R)) yes, (stay-dropped (shrSliceOf (1 ∷ []) tt (plain (λ _. u8))) yes, (stay-dropped (shrSliceOf (2 ∷ []) tt (plain (λ _. u16))) yes, tt))))
 
-module _ {M : Type 1} (𝓤 : URA M) (H : Heap 𝓤) (A : Atoms 𝓤) (W : Given 𝓤 H A) (at-mem : Memory → SProp 𝓤) (run : Routine → Fun 𝓤) (t : Passed) (h : Pen) (k n : Passed) (few : length (t .ref .now) < 2 ^ 64) (is-pen : Is R h (mach h ∷ [])) (within : Fits h (t .ref .now)) where
+module _ {M : Type 1} (𝓤 : URA M) (H : Heap 𝓤) (A : Atoms 𝓤) (W : Given 𝓤 H A) (at-mem : Memory → SProp 𝓤) (run : Routine → Fun 𝓤) (t : LentSlice) (h : Pen) (k n : LentSlice) (few : length (t .ref .now) < 2 ^ 64) (is-pen : Is R h (mach h ∷ [])) (within : Fits h (t .ref .now)) where
   -- the arguments
   abbrev a : RefT (List ℕ) × (Pen × (RefT (List ℕ) × (RefT (List ℕ) × Unit {0})))
   a = (t .ref, (h, (k .ref, (n .ref, tt))))
@@ -81,7 +81,7 @@ module _ {M : Type 1} (𝓤 : URA M) (H : Heap 𝓤) (A : Atoms 𝓤) (W : Given
       nothing ! $ nothing ! $ fjoin ! $ nothing ! $ fjoin ! $ nothing ! $ fjoin ! $ move ! (1 ∷ 0 ∷ []) $ fjoin ! $
       owned ! R (Is R) (LL.makes P.the-type P′.the-plain 𝓤 H A) z _ is $ move ! (1 ∷ 0 ∷ []) $ done !
 
-  module _ (C : Calls 𝓤 H) (Λ : Loops 𝓤 H) (mono : FmC 𝓤 H (W .laws) C) (known : Triple 𝓤 (C #pen·line) (Line 𝓤 H A at-mem run)) (is-key : Is (ShrSlice (named 1) (k .lft) u8) (k .ref) (slot k ∷ [])) (is-numbers : Is (ShrSlice (named 2) (n .lft) u16) (n .ref) (slot n ∷ [])) where
+  module _ (C : Calls 𝓤 H) (Λ : Loops 𝓤 H) (mono : FmC 𝓤 H (W .laws) C) (known : Triple 𝓤 (C #pen·line) (LineTriple 𝓤 H A at-mem run)) (is-key : Is (ShrSlice (named 1) (k .lft) u8) (k .ref) (slot k ∷ [])) (is-numbers : Is (ShrSlice (named 2) (n .lft) u16) (n .ref) (slot n ∷ [])) where
     walk : ent 𝓤 (onEntry 𝓤 H A line-by.signature (t .lft, (k .lft, (n .lft, tt))) (t .share, (k .share, (n .share, tt))) a vals) (WpFn 𝓤 H C Λ code.function (slot t ∷ mach h ∷ slot k ∷ slot n ∷ []) Post)
     walk =
         qed W ((‵ (token t) ⊛ ‵ (token k) ⊛ ‵ (token n) ⊛ ‵ ftrue) ∷ ‵ (owns (MutSlice (named 0) (t .lft) u8 ∷ R ∷ ShrSlice (named 1) (k .lft) u8 ∷ ShrSlice (named 2) (n .lft) u16 ∷ []) a vals) ∷ []) ∵
@@ -108,13 +108,13 @@ module _ {M : Type 1} (𝓤 : URA M) (H : Heap 𝓤) (A : Atoms 𝓤) (W : Given
         by ! (exits z zs is e same))))))))))))
 
 module _ {M : Type 1} (𝓤 : URA M) (H : Heap 𝓤) (A : Atoms 𝓤) (W : Given 𝓤 H A) (mem : Memory → SProp 𝓤) (run : Routine → Fun 𝓤) where
-  line-by-walks : (C : Calls 𝓤 H) (Λ : Loops 𝓤 H) → FmC 𝓤 H (W .laws) C → Triple 𝓤 (C #pen·line) (Line 𝓤 H A mem run) → Walks 𝓤 H A line-by.ended stayed (WpFn 𝓤 H C Λ code.function) (line-by.clauses 𝓤 H A mem run)
+  line-by-walks : (C : Calls 𝓤 H) (Λ : Loops 𝓤 H) → FmC 𝓤 H (W .laws) C → Triple 𝓤 (C #pen·line) (LineTriple 𝓤 H A mem run) → Walks 𝓤 H A line-by.ended stayed (WpFn 𝓤 H C Λ code.function) (line-by.clauses 𝓤 H A mem run)
   line-by-walks C Λ mono known = walked 𝓤 H A line-by.ended stayed (line-by.clauses 𝓤 H A mem run) (WpFn 𝓤 H C Λ code.function) (λ κs. (slice-vals, (LL.vals P.the-type P′.the-laws, (slice-vals, (slice-vals, tt)))))
       (λ κs. (mut-slice-tells (named 0) (κs .0) u8, (LL.tells P.the-type P′.the-laws, (shr-slice-tells (named 1) (κs .1 .0) u8, (shr-slice-tells (named 2) (κs .1 .1 .0) u16, tt)))))
       (λ κs qs bounds a g are. needs 𝓤 (Fits (a .1 .0) (a .0 .now)) _
       (λ within. walk 𝓤 H A W mem run (record { lft = κs .0; share = qs .0; ref = a .0 }) (a .1 .0) (record { lft = κs .1 .0; share = qs .1 .0; ref = a .1 .1 .0 }) (record { lft = κs .1 .1 .0; share = qs .1 .1 .0; ref = a .1 .1 .1 .0 }) (are .0 .0 .1 .0) (are .1 .0) within C Λ mono known (are .1 .1 .0) (are .1 .1 .1 .0)))
 
-line-by-meets : {M : Type 1} (𝓤 : URA M) (H : Heap 𝓤) (A : Atoms 𝓤) → Given 𝓤 H A → (mem : Memory → SProp 𝓤) (run : Routine → Fun 𝓤) (𝓣 : Tables 𝓤 H) → Triple 𝓤 (𝓣 .C #pen·line) (Line 𝓤 H A mem run)
+line-by-meets : {M : Type 1} (𝓤 : URA M) (H : Heap 𝓤) (A : Atoms 𝓤) → Given 𝓤 H A → (mem : Memory → SProp 𝓤) (run : Routine → Fun 𝓤) (𝓣 : Tables 𝓤 H) → Triple 𝓤 (𝓣 .C #pen·line) (LineTriple 𝓤 H A mem run)
     → Meets 𝓤 H A line-by.signature (WpFn 𝓤 H (𝓣 .C) (𝓣 .Λ) code.function) (line-by.spec 𝓤 H A mem run)
 line-by-meets 𝓤 H A W mem run 𝓣 known =
     walk-meets 𝓤 H A line-by.ended stayed W (goes-slice 𝓤 H A W 3 0 tt (plain (λ _. u8)), (goes-dropped 𝓤 H A W 3 (plain (λ _. R)) yes (λ κs x f. refl), (goes-dropped 𝓤 H A W 3 (shrSliceOf (1 ∷ []) tt (plain (λ _. u8))) yes (λ κs x f. refl), (goes-dropped 𝓤 H A W 3 (shrSliceOf (2 ∷ []) tt (plain (λ _. u16))) yes (λ κs x f. refl), tt)))) (line-by.clauses 𝓤 H A mem run)
@@ -126,4 +126,4 @@ line-by-spec 𝓤 H 𝓜 𝓖 𝓡 =
     entered 𝓤 H (tripleOf 𝓤 H (𝓖 .A) line-by.signature (line-by.spec 𝓤 H (𝓖 .A) (𝓜 .mem) (𝓡 .run)))
     (tables 𝓤 H 𝓜 𝓡 code.env .C) (tables 𝓤 H 𝓜 𝓡 code.env .Λ) #pen·line-by code.function (code.unfolded 𝓤 H 𝓜 𝓡)
     (line-by-meets 𝓤 H (𝓖 .A) (givenOf 𝓤 H 𝓜 𝓖) (𝓜 .mem) (𝓡 .run) (tablesOf 𝓤 H 𝓜 (tables 𝓤 H 𝓜 𝓡 code.env))
-    (cited 𝓤 H (Line 𝓤 H (𝓖 .A) (𝓜 .mem) (𝓡 .run)) 𝓜 𝓡 code.env #pen·line line-def.routine code.calls-pen·line (line-thm.met 𝓤 H 𝓜 𝓖 𝓡)))
+    (cited 𝓤 H (LineTriple 𝓤 H (𝓖 .A) (𝓜 .mem) (𝓡 .run)) 𝓜 𝓡 code.env #pen·line line-def.routine code.calls-pen·line (line-thm.met 𝓤 H 𝓜 𝓖 𝓡)))

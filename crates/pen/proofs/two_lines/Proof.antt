@@ -45,8 +45,8 @@ use Rattle.pen.proofs.Twice.Laws as Tw′
 use Rattle.pen.proofs.PenCell.{R, mach, pen-is, pen-typed}
 use Rattle.pen.proofs.Past.{fits-on}
 use Rattle.pen.proofs.InTurn.{in-turn}
-use Rattle.pen.proofs.Passed.{Passed, token, slot, Text, holding}
-use Rattle.pen.proofs.Lending.{Line, lends-both}
+use Rattle.pen.proofs.Passed.{LentSlice, token, slot, Text, holding}
+use Rattle.pen.proofs.Lending.{LineTriple, lends-both}
 use Rattle.pen.proofs.line.Symbol as line-def
 use Rattle.pen.proofs.line.Symbol.{name as #pen·line}
 use Rattle.pen.proofs.line.Met as line-thm
@@ -67,7 +67,7 @@ B = Tw.the-row
 abbrev both : Twice → Val
 both r = vstruct (vcons (vint w64 (r .between)) (vcons (mach (r .pen)) vnil))
 
-module _ {M : Type 1} (𝓤 : URA M) (H : Heap 𝓤) (A : Atoms 𝓤) (W : Given 𝓤 H A) (at-mem : Memory → SProp 𝓤) (run : Routine → Fun 𝓤) (t : Passed) (h : Pen) (k n k′ n′ : Passed) (few : length (t .ref .now) < 2 ^ 64) (is-pen : Is R h (mach h ∷ [])) (within : Fits h (t .ref .now)) where
+module _ {M : Type 1} (𝓤 : URA M) (H : Heap 𝓤) (A : Atoms 𝓤) (W : Given 𝓤 H A) (at-mem : Memory → SProp 𝓤) (run : Routine → Fun 𝓤) (t : LentSlice) (h : Pen) (k n k′ n′ : LentSlice) (few : length (t .ref .now) < 2 ^ 64) (is-pen : Is R h (mach h ∷ [])) (within : Fits h (t .ref .now)) where
   -- the arguments
   abbrev a : RefT (List ℕ) × (Pen × (RefT (List ℕ) × (RefT (List ℕ) × (RefT (List ℕ) × (RefT (List ℕ) × Unit {0})))))
   a = (t .ref, (h, (k .ref, (n .ref, (k′ .ref, (n′ .ref, tt))))))
@@ -94,7 +94,7 @@ module _ {M : Type 1} (𝓤 : URA M) (H : Heap 𝓤) (A : Atoms 𝓤) (W : Given
       nothing ! $ nothing ! $ fjoin ! $ nothing ! $ fjoin ! $ nothing ! $ fjoin ! $ nothing ! $ fjoin ! $ nothing ! $ fjoin ! $ move ! (1 ∷ 0 ∷ []) $ fjoin ! $
       owned ! B (Is B) (LL.makes Tw.the-type Tw′.the-plain 𝓤 H A) r _ is $ move ! (1 ∷ 0 ∷ []) $ done !
 
-  module _ (C : Calls 𝓤 H) (Λ : Loops 𝓤 H) (mono : FmC 𝓤 H (W .laws) C) (known : Triple 𝓤 (C #pen·line) (Line 𝓤 H A at-mem run)) (is-k : Is (ShrSlice (named 1) (k .lft) u8) (k .ref) (slot k ∷ [])) (is-n : Is (ShrSlice (named 2) (n .lft) u16) (n .ref) (slot n ∷ [])) (is-k′ : Is (ShrSlice (named 3) (k′ .lft) u8) (k′ .ref) (slot k′ ∷ [])) (is-n′ : Is (ShrSlice (named 4) (n′ .lft) u16) (n′ .ref) (slot n′ ∷ [])) where
+  module _ (C : Calls 𝓤 H) (Λ : Loops 𝓤 H) (mono : FmC 𝓤 H (W .laws) C) (known : Triple 𝓤 (C #pen·line) (LineTriple 𝓤 H A at-mem run)) (is-k : Is (ShrSlice (named 1) (k .lft) u8) (k .ref) (slot k ∷ [])) (is-n : Is (ShrSlice (named 2) (n .lft) u16) (n .ref) (slot n ∷ [])) (is-k′ : Is (ShrSlice (named 3) (k′ .lft) u8) (k′ .ref) (slot k′ ∷ [])) (is-n′ : Is (ShrSlice (named 4) (n′ .lft) u16) (n′ .ref) (slot n′ ∷ [])) where
     walk : ent 𝓤 (onEntry 𝓤 H A two-lines.signature (bound .0 .0) (bound .0 .1) a vals) (WpFn 𝓤 H C Λ code.function (slot t ∷ mach h ∷ slot k ∷ slot n ∷ slot k′ ∷ slot n′ ∷ []) Post)
     walk =
         qed W ((‵ (token t) ⊛ ‵ (token k) ⊛ ‵ (token n) ⊛ ‵ (token k′) ⊛ ‵ (token n′) ⊛ ‵ ftrue) ∷ ‵ (owns (MutSlice (named 0) (t .lft) u8 ∷ R ∷ ShrSlice (named 1) (k .lft) u8 ∷ ShrSlice (named 2) (n .lft) u16 ∷ ShrSlice (named 3) (k′ .lft) u8 ∷ ShrSlice (named 4) (n′ .lft) u16 ∷ []) a vals) ∷ []) ∵
@@ -141,14 +141,14 @@ module _ {M : Type 1} (𝓤 : URA M) (H : Heap 𝓤) (A : Atoms 𝓤) (W : Given
         keep ! (0 ∷ 4 ∷ 5 ∷ 1 ∷ 2 ∷ 3 ∷ []) $ by ! (exits r ys is-r (in-turn e f) (as-long ∙ same)))))))))))))))))))))
 
 module _ {M : Type 1} (𝓤 : URA M) (H : Heap 𝓤) (A : Atoms 𝓤) (W : Given 𝓤 H A) (mem : Memory → SProp 𝓤) (run : Routine → Fun 𝓤) where
-  two-lines-walks : (C : Calls 𝓤 H) (Λ : Loops 𝓤 H) → FmC 𝓤 H (W .laws) C → Triple 𝓤 (C #pen·line) (Line 𝓤 H A mem run) → Walks 𝓤 H A two-lines.ended stayed (WpFn 𝓤 H C Λ code.function) (two-lines.clauses 𝓤 H A mem run)
+  two-lines-walks : (C : Calls 𝓤 H) (Λ : Loops 𝓤 H) → FmC 𝓤 H (W .laws) C → Triple 𝓤 (C #pen·line) (LineTriple 𝓤 H A mem run) → Walks 𝓤 H A two-lines.ended stayed (WpFn 𝓤 H C Λ code.function) (two-lines.clauses 𝓤 H A mem run)
   two-lines-walks C Λ mono known = walked 𝓤 H A two-lines.ended stayed (two-lines.clauses 𝓤 H A mem run) (WpFn 𝓤 H C Λ code.function) (λ κs. (slice-vals, (LL.vals P.the-type P′.the-laws, (slice-vals, (slice-vals, (slice-vals, (slice-vals, tt)))))))
       (λ κs. (mut-slice-tells (named 0) (κs .0) u8, (LL.tells P.the-type P′.the-laws, (shr-slice-tells (named 1) (κs .1 .0) u8, (shr-slice-tells (named 2) (κs .1 .1 .0) u16, (shr-slice-tells (named 3) (κs .1 .1 .1 .0) u8, (shr-slice-tells (named 4) (κs .1 .1 .1 .1 .0) u16, tt)))))))
       (λ κs qs bounds a g are. needs 𝓤 (Fits (a .1 .0) (a .0 .now)) _
       (λ within. walk 𝓤 H A W mem run (record { lft = κs .0; share = qs .0; ref = a .0 }) (a .1 .0) (record { lft = κs .1 .0; share = qs .1 .0; ref = a .1 .1 .0 }) (record { lft = κs .1 .1 .0; share = qs .1 .1 .0; ref = a .1 .1 .1 .0 }) (record { lft = κs .1 .1 .1 .0; share = qs .1 .1 .1 .0; ref = a .1 .1 .1 .1 .0 }) (record { lft = κs .1 .1 .1 .1 .0; share = qs .1 .1 .1 .1 .0; ref = a .1 .1 .1 .1 .1 .0 })
       (are .0 .0 .1 .0) (are .1 .0) within C Λ mono known (are .1 .1 .0) (are .1 .1 .1 .0) (are .1 .1 .1 .1 .0) (are .1 .1 .1 .1 .1 .0)))
 
-two-lines-meets : {M : Type 1} (𝓤 : URA M) (H : Heap 𝓤) (A : Atoms 𝓤) → Given 𝓤 H A → (mem : Memory → SProp 𝓤) (run : Routine → Fun 𝓤) (𝓣 : Tables 𝓤 H) → Triple 𝓤 (𝓣 .C #pen·line) (Line 𝓤 H A mem run)
+two-lines-meets : {M : Type 1} (𝓤 : URA M) (H : Heap 𝓤) (A : Atoms 𝓤) → Given 𝓤 H A → (mem : Memory → SProp 𝓤) (run : Routine → Fun 𝓤) (𝓣 : Tables 𝓤 H) → Triple 𝓤 (𝓣 .C #pen·line) (LineTriple 𝓤 H A mem run)
     → Meets 𝓤 H A two-lines.signature (WpFn 𝓤 H (𝓣 .C) (𝓣 .Λ) code.function) (two-lines.spec 𝓤 H A mem run)
 two-lines-meets 𝓤 H A W mem run 𝓣 known =
     walk-meets 𝓤 H A two-lines.ended stayed W (goes-slice 𝓤 H A W 5 0 tt (plain (λ _. u8)), (goes-dropped 𝓤 H A W 5 (plain (λ _. R)) yes (λ κs x f. refl), (goes-dropped 𝓤 H A W 5 (shrSliceOf (1 ∷ []) tt (plain (λ _. u8))) yes (λ κs x f. refl), (goes-dropped 𝓤 H A W 5 (shrSliceOf (2 ∷ []) tt (plain (λ _. u16))) yes (λ κs x f. refl), (goes-dropped 𝓤 H A W 5 (shrSliceOf (3 ∷ []) tt (plain (λ _. u8))) yes (λ κs x f. refl), (goes-dropped 𝓤 H A W 5 (shrSliceOf (4 ∷ []) tt (plain (λ _. u16))) yes (λ κs x f. refl), tt)))))) (two-lines.clauses 𝓤 H A mem run)
@@ -160,4 +160,4 @@ two-lines-spec 𝓤 H 𝓜 𝓖 𝓡 =
     entered 𝓤 H (tripleOf 𝓤 H (𝓖 .A) two-lines.signature (two-lines.spec 𝓤 H (𝓖 .A) (𝓜 .mem) (𝓡 .run)))
     (tables 𝓤 H 𝓜 𝓡 code.env .C) (tables 𝓤 H 𝓜 𝓡 code.env .Λ) #pen·two-lines code.function (code.unfolded 𝓤 H 𝓜 𝓡)
     (two-lines-meets 𝓤 H (𝓖 .A) (givenOf 𝓤 H 𝓜 𝓖) (𝓜 .mem) (𝓡 .run) (tablesOf 𝓤 H 𝓜 (tables 𝓤 H 𝓜 𝓡 code.env))
-    (cited 𝓤 H (Line 𝓤 H (𝓖 .A) (𝓜 .mem) (𝓡 .run)) 𝓜 𝓡 code.env #pen·line line-def.routine code.calls-pen·line (line-thm.met 𝓤 H 𝓜 𝓖 𝓡)))
+    (cited 𝓤 H (LineTriple 𝓤 H (𝓖 .A) (𝓜 .mem) (𝓡 .run)) 𝓜 𝓡 code.env #pen·line line-def.routine code.calls-pen·line (line-thm.met 𝓤 H 𝓜 𝓖 𝓡)))
