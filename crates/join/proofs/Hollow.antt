@@ -1,5 +1,5 @@
--- None of the four hollow versions of document 01 meets the contract of the join: one refuses everything, one gives the same list
--- each time, one leaves its buffers, one invents its counts. Like the call, a version is asked for 16-bit words alone.
+-- None of the four hollow versions of document 01 meets the contract of the join as it stands in the code: one refuses everything, one
+-- gives the same list each time, one leaves its buffers, one invents its counts. Like the call, a version is asked for 16-bit words alone.
 use mathlib.Core.List.{List, [], _∷_}
 use mathlib.Core.Logic.{_⊎_, ⊎-elim}
 use mathlib.Core.Path.{_≡_, sym, ap, _∙_}
@@ -7,6 +7,10 @@ use Prim.Native.Nat.{ℕ, zero, suc, _≤_}
 use native.Mathlib.Nat.{le-of-eq}
 use native.Mathlib.Omega.{arith}
 use lib.ListN.{length, getD, replicate, length-replicate}
+use contract.Lifetimes.{Lfts}
+use denote.Ref.{RefT}
+use denote.Triple.Clauses.{AtExit}
+use borrow.Fn.Kinds.{Dens, endedOf}
 use Rattle.site.specs.Measure.{inUse}
 use Rattle.site.specs.Events.{events, met}
 use Rattle.site.specs.Tables.{siteOf}
@@ -14,8 +18,10 @@ use Rattle.words.specs.Words.{Words16, padded}
 use Rattle.search.specs.Outcome.{Tells, Outcome, outcome}
 use Rattle.search.proofs.Answers.{tells-refused, tells-listed}
 use Rattle.search.specs.declared.Answer.the-variants.{Listed, Refused}
-use Rattle.join.specs.Join.{JoinCall, Joins}
-use Rattle.join.proofs.Outcomes.{joins-back, listed-only}
+use Rattle.join.proofs.Outcomes.{listed-only}
+use Rattle.join.proofs.Only.{join-says}
+use Rattle.join.proofs.join.Kinds as join-kinds
+use Rattle.join.proofs.join.Reads as join
 use Rattle.join.proofs.Examples.{Case, case, Told, junkList, junkTrail, table, asked, told, examples}
 
 -- ---- versions of the join
@@ -42,24 +48,24 @@ pub record InWords (i : Given) : Type 0 where
 abbrev pub Version : Type 0
 Version = Given → Outcome
 
--- its call
-abbrev pub callBy : Version → Given → JoinCall
-callBy f i = record {
-  k = i .k;
-  offsets = i .offsets;
-  codes = i .codes;
-  list = i .list;
-  work = i .work;
-  trail = i .trail;
-  answer = f i .answer;
-  list′ = f i .list;
-  work′ = f i .work;
-  trail′ = f i .trail;
-}
+-- words as they are lent, wherever they stand
+abbrev lent : List ℕ → RefT (List ℕ)
+lent ws = record { ptr = (0, 0); name = 0; now = ws }
 
--- it meets the contract
+-- the arguments of its call, and the parameters at exit
+abbrev pub argsOf : (κs : Lfts 5) → Given → Dens κs join-kinds.ps
+argsOf κs i = (i .k, (lent (i .offsets), (lent (i .codes), (lent (i .list), (lent (i .work), (lent (i .trail), tt))))))
+
+abbrev pub exitOf : (κs : Lfts 5) → Given → Outcome → AtExit (endedOf 5 join-kinds.ps join-kinds.r) κs
+exitOf κs i o = (i .k, (lent (i .offsets), (lent (i .codes), (lent (o .list), (lent (o .work), (lent (o .trail), tt))))))
+
+-- it meets the contract in the code
 abbrev pub MeetsContract : Version → Type 0
-MeetsContract f = (i : Given) → InWords i → Joins (callBy f i)
+MeetsContract f = (κs : Lfts 5) (i : Given) → InWords i → join.Post κs (argsOf κs i) (f i .answer) (exitOf κs i (f i))
+
+-- lifetimes of five lent slices: which they are makes no difference
+nowhere : Lfts 5
+nowhere = ([], ([], ([], ([], ([], tt)))))
 
 -- ---- two cases of the table
 
@@ -123,7 +129,7 @@ module _ (f : Version) (meets : MeetsContract f) where
   -- on a case of the table a version does what the document tells
   as-told : (c : Case) → InWords (given c) → asked area c ≡ told area c → f (given c) ≡ told area c .outcome
   unfolding asked
-  as-told c w e = joins-back (callBy f (given c)) (meets (given c) w) ∙ ap (λ (t : Told). t .outcome) e
+  as-told c w e = meets nowhere (given c) w ∙ ap (λ (t : Told). t .outcome) e
 
   -- it refuses everything: not P9
   pub refuses-everything : ((i : Given) → InWords i → (n : ℕ) × (p : ℕ) × Tells (f i .answer) n (p ∷ [])) → ⊥
@@ -153,7 +159,7 @@ module _ (f : Version) (meets : MeetsContract f) where
   pub invents-counts : (i : Given) → InWords i → (f₁ e m : ℕ) → Tells (f i .answer) 0 (f₁ ∷ e ∷ m ∷ [])
       → ((e ≡ events inUse (siteOf (i .offsets) (i .codes)) (i .k) → ⊥) ⊎ (m ≡ met inUse (siteOf (i .offsets) (i .codes)) (i .k) → ⊥)) → ⊥
   invents-counts i w f₁ e m t =
-      let j = meets i w in
+      let j = join-says nowhere (argsOf nowhere i) (f i .answer) (exitOf nowhere i (f i)) (meets nowhere i w) in
       let a = listed-only j (tells-listed _ t) in
       let same = sym (t .1) ∙ j .found (a .0) (a .1) .told .1 in
       let x : e ≡ events inUse (siteOf (i .offsets) (i .codes)) (i .k) = cc same in
