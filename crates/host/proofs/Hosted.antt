@@ -7,7 +7,12 @@ use Rattle.listing.specs.Answers.{listingBy}
 use Rattle.listing.specs.Calls.{Lists}
 use Rattle.listing.specs.declared.Listing.{Listing}
 use Rattle.listing.specs.declared.Listing.the-variants.{Text, Refused}
-use Rattle.host.specs.Call.{hostValue, hostValueBy, Hosts}
+use Rattle.host.specs.Call.{hostValue, Hosts}
+
+-- the value of the library's answer
+unfoldable pub hostValueBy : Listing → ℕ
+hostValueBy (Text n) = n
+hostValueBy (Refused n p) = 1000000 + n
 
 -- the answer for a reading has the reading's value
 pub value-same : (x : Read (List ℕ)) → hostValueBy (listingBy x) ≡ hostValue x

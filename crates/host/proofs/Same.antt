@@ -17,8 +17,8 @@ use Rattle.listing.proofs.Telling.{lists-numbered}
 use Rattle.listing.proofs.Only.{list-sheet-says}
 use Rattle.listing.proofs.list_sheet.Kinds as list-sheet-kinds
 use Rattle.listing.proofs.list_sheet.Reads as list-sheet
-use Rattle.host.specs.Call.{hostValue, hostValueBy, Hosts}
-use Rattle.host.proofs.Hosted.{value-same}
+use Rattle.host.specs.Call.{hostValue, Hosts}
+use Rattle.host.proofs.Hosted.{hostValueBy, value-same}
 use Rattle.host.proofs.Only.{sazamkhri-listing-says}
 use Rattle.host.proofs.sazamkhri_listing.Kinds as sazamkhri-listing-kinds
 use Rattle.host.proofs.sazamkhri_listing.Reads as sazamkhri-listing

@@ -7,18 +7,11 @@ use Rattle.words.specs.Words.{padded}
 use Rattle.sheet.specs.Read.{Read, value, refused}
 use Rattle.listing.specs.Listing.{listingIn}
 use Rattle.listing.specs.Answers.{bytesOf}
-use Rattle.listing.specs.declared.Listing.{Listing}
-use Rattle.listing.specs.declared.Listing.the-variants.{Text, Refused}
 
 -- the text's length, or 1,000,000 plus the refusal number
 unfoldable pub hostValue : Read (List ℕ) → ℕ
 hostValue (value text) = length text
 hostValue (refused n p) = 1000000 + n
-
--- the same of the library's answer
-unfoldable pub hostValueBy : Listing → ℕ
-hostValueBy (Text n) = n
-hostValueBy (Refused n p) = 1000000 + n
 
 -- `sazamkhri_listing` of a sheet into a lent buffer: the value, and the buffer afterwards, zero after a refusal and behind a listing
 pub record Hosts (sheet text : List ℕ) (r : ℕ) (text₂ : List ℕ) : Type 0 where
