@@ -19,12 +19,15 @@ import re
 import sys
 from pathlib import Path
 
+from antt_text import plain
+
 KINDS = ("definition", "theorem", "contract", "run")
 ANTT_WORDS = r"(?:(?:pub|unfoldable|abbrev|record|data)\s+)*"
 
 
 def antt_declares(text, name):
     """A line declares the name: `name :`, with words such as `pub` in front, or a record."""
+    text = plain(text)
     escaped = re.escape(name)
     signature = rf"^[ \t]*{ANTT_WORDS}{escaped}(?:\s*\{{[^}}]*\}})*\s*:(?:\s|$)"
     record = rf"^[ \t]*(?:pub\s+)?(?:record|data)\s+{escaped}(?:\s|$)"

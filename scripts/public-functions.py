@@ -7,16 +7,20 @@ A public function owes an `ensures` that speaks of its result and, for each buff
 it by `&mut`, of what the buffer holds in the end (`.exit`). It also owes a theorem that no second
 answer meets its contract: by convention `FN-only` in crates/NAME/proofs/Only.antt, where the
 underscores of the function's name are `-`. The theorem is an `OneAnswer` over the function's own
-contract, its `Post`, and its view sees the result and every lent buffer. A function without such a
-theorem is named as `crate::fn`, with a reason, in the section '## Exceptions' of docs/PROMISES.md.
+contract, its `Post`, and nothing else; its view sees the result and every lent buffer. A function
+without such a theorem is named as `crate::fn`, with a reason, in the section '## Exceptions' of
+docs/PROMISES.md.
 
-The entry points below are what users call. They take any input, so they have no `requires`.
+The entry points below are what users call. They take any input, so they have no `requires`. Each but
+those of the probe, which are for tests, has a theorem `FN-says` over its `Post` for others to use.
 
 Exits with 1 if a function owes something, and if an exception names no public function.
 """
 import re
 import sys
 from pathlib import Path
+
+from antt_text import plain
 
 # Where users come in. docs/DECISIONS.md (S13) tells of the list.
 ENTRY_POINTS = {
@@ -128,49 +132,78 @@ def exceptions(root):
 
 
 def theorems(crate):
-    """The `FN-only` theorems of a crate, each with its statement; and what each module is called there."""
+    """What proofs/Only.antt states, by name; the modules that it names; and where its other names come from."""
     file = crate / "proofs" / "Only.antt"
     if not file.is_file():
-        return {}, {}
-    text = re.sub(r"--[^\n]*", "", file.read_text(encoding="utf-8"))
-    stated = re.compile(r"^[ \t]*(?:pub\s+)?([^\s:]+-only)\s*:(?=\s)(.*?)^[ \t]*\1\s", re.M | re.S)
-    names = re.findall(r"^use Rattle·\w+·proofs\.proofs\.(\S+) as (\S+)", text, re.M)
-    return {m.group(1): m.group(2) for m in stated.finditer(text)}, {alias: module for module, alias in names}
+        return {}, {}, {}
+    text = plain(file.read_text(encoding="utf-8"))
+    stated = re.compile(r"^(?:pub\s+)?([^\s:]+-(?:only|says))\s*:(?=\s)(.*?)^\1\s", re.M | re.S)
+    modules = re.findall(r"^use Rattle·\w+·proofs\.proofs\.(\S+) as (\S+)", text, re.M)
+    names = {}
+    for module, used in re.findall(r"^use (Rattle·\S+?)\.\{([^}]*)\}", text, re.M):
+        names.update({name.strip(): module for name in used.split(",")})
+    return {m.group(1): " ".join(m.group(2).split()) for m in stated.finditer(text)}, {a: m for m, a in modules}, names
 
 
-def is_contract(crate, module, fn):
-    """The module has the contract of fn as `Post`: it is read from the code, or a file that ties it to the clauses."""
-    if module == f"{fn}.Reads":
-        return True
+def meant(names, word):
+    """The word is the one that words/proofs/OneAnswer.antt defines."""
+    return re.fullmatch(r"Rattle.words(?:·proofs\.proofs|\.proofs)\.OneAnswer", names.get(word, "")) is not None
+
+
+def own(modules, fn, kinds, post):
+    """The two names are those of the modules that the kit makes for fn."""
+    return modules.get(kinds) == f"{fn}.Kinds" and modules.get(post) == f"{fn}.Reads"
+
+
+def written_out(crate, module, fn):
+    """A file of proofs/ that writes the contract of fn out as `Post`, and ties it to the clauses in the code."""
     file = crate / "proofs" / f"{module}.antt"
     if not file.is_file():
         return False
-    text = file.read_text(encoding="utf-8")
-    alias = re.search(rf"^use Rattle·\w+·proofs\.proofs\.{fn} as (\S+)", text, re.M)
-    return alias is not None and f"{alias.group(1)}.clauses" in text
+    text = " ".join(plain(file.read_text(encoding="utf-8")).split())
+    alias = re.search(rf"use Rattle·\w+·proofs\.proofs\.{fn} as (\S+)", text)
+    tie = r"pub post-is : .* → {}\.clauses 𝓤 H A mem run κs a \.ensures tt u x ≡ fact 𝓤 \(Post κs a u x\) post-is"
+    return alias is not None and re.search(tie.format(re.escape(alias.group(1))), text) is not None
 
 
-def only_problems(crate, fn, statement, modules, parameters, has_result):
-    """What is wrong with a statement that no second answer meets the contract of fn."""
-    posts = re.findall(r"(\S+)\.Post\b", statement)
-    if not posts or not all(is_contract(crate, modules.get(p, p), fn) for p in posts):
-        return [f"`{fn.replace('_', '-')}-only` does not name the `Post` of {fn}"]
-    view = re.search(r"\bOneAnswer\b.*\(\s*λ\s+(\S+)\s+(\S+)\s+(\S+)\s*\.(.*)\)\s*$", statement, re.S)
-    if view is not None:
-        _, result, exit_, seen = view.groups()
-    elif f"{fn}.Reads" not in (modules.get(p) for p in posts):
-        # a contract that the kit does not read has no `OneAnswer`: it is written out, for u and x, v and y
-        result, exit_, seen = "u", "x", statement.rpartition("→")[2]
-    else:
-        return [f"`{fn.replace('_', '-')}-only` is no `OneAnswer` with a view"]
+def view_problems(seen, names, parameters, has_result):
+    """What a view of result u and exit x leaves out; it is built of these and of what makes a record of them."""
     problems = []
-    if has_result and not re.search(rf"(?<![\w.]){result}(?![\w])", seen):
+    words = set(re.findall(r"[^\s(),.]+", re.sub(r"\bx(?:\s+\.\w+)+|\bu(?:\s+\.now)?\b", " ", seen)))
+    if not all(".specs." in names.get(word, "") for word in words):
+        problems.append(f"the view of its `-only` theorem is more than result and buffers: {' '.join(sorted(words))}")
+    if has_result and not re.search(r"(?<![\w.])u(?![\w])", seen):
         problems.append("the view of its `-only` theorem does not see the result")
     for i, (name, is_mut) in enumerate(parameters_of(parameters)):
-        path = rf"(?<![\w.]){exit_}" + r"\s+\.1" * i + r"\s+\.0\s+\.now\b"
+        path = r"(?<![\w.])x" + r"\s+\.1" * i + r"\s+\.0\s+\.now\b"
         if is_mut and not re.search(path, seen):
             problems.append(f"the view of its `-only` theorem does not see `{name}`")
     return problems
+
+
+def only_problems(crate, fn, statement, modules, names, parameters, has_result):
+    """What is wrong with a statement that no second answer meets the contract of fn."""
+    form = r"OneAnswer \d+ (\S+)\.ps \1\.r (\S+)\.Post (?:\{B = [^{}]*\} )?\(λ κs u x\. (.*)\)"
+    said = re.fullmatch(form, statement)
+    if said and meant(names, "OneAnswer") and own(modules, fn, said.group(1), said.group(2)):
+        return view_problems(said.group(3), names, parameters, has_result)
+    # a contract that the kit does not read is written out
+    form = r"\(κs : [^()]*\) \(a : [^()]*\) \(u v : [^()]*\) \(x y : [^()]*\) → (\S+)\.Post κs a u x → \1\.Post κs a v y → _≡_ \{A = [^{}]*\} \((.*?)\) \((.*)\)"
+    said = re.fullmatch(form, statement)
+    if said and written_out(crate, modules.get(said.group(1), ""), fn):
+        other = re.sub(r"\bu\b", "v", re.sub(r"\bx\b", "y", said.group(2)))
+        if other == said.group(3):
+            return view_problems(said.group(2), names, parameters, has_result)
+    return [f"`{fn.replace('_', '-')}-only` is no `OneAnswer` over the `Post` of {fn}"]
+
+
+def says_problems(fn, stated, modules, names):
+    """An entry point whose contract other theorems use has a theorem of what it says."""
+    name = fn.replace("_", "-") + "-says"
+    said = re.fullmatch(r"Says \d+ (\S+)\.ps \1\.r (\S+)\.Post \(λ κs a u x\. .*\)", stated.get(name, ""))
+    if said and meant(names, "Says") and own(modules, fn, said.group(1), said.group(2)):
+        return []
+    return [f"there is no `{name}`, a `Says` over the `Post` of {fn}"]
 
 
 def main(arguments):
@@ -180,7 +213,7 @@ def main(arguments):
     missing = set(ENTRY_POINTS)
     count = wrong = 0
     for crate in sorted(p for p in (root / "crates").glob("*") if p.is_dir()):
-        proved, modules = theorems(crate)
+        proved, modules, names = theorems(crate)
         for file in sorted((crate / "src").rglob("*.rt")):
             text = blanked(file.read_text(encoding="utf-8"))
             for found in PUBLIC.finditer(text):
@@ -194,11 +227,13 @@ def main(arguments):
                     missing.discard(full)
                     if clauses["requires"]:
                         problems.append("an entry point has a `requires`")
+                    if crate.name != "probe":
+                        problems += says_problems(name, proved, modules, names)
                 only = name.replace("_", "-") + "-only"
                 unused.discard(full)
                 if only in proved:
                     note = only
-                    problems += only_problems(crate, name, proved[only], modules, parameters, has_result)
+                    problems += only_problems(crate, name, proved[only], modules, names, parameters, has_result)
                 elif full in excused:
                     note = "excepted"
                     if not excused[full]:

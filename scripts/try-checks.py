@@ -3,8 +3,7 @@
 
     scripts/try-checks.py [ROOT]
 
-Damages one thing at a time in a copy of crates/ and docs/ and runs the check that has to refuse
-it. Exits with 1 if a check does not notice, or refuses the undamaged copy.
+Damages one thing at a time in a copy of the sources and runs the check that has to refuse it. Exits with 1 if a check does not notice, or refuses the undamaged copy.
 """
 import re
 import shutil
@@ -54,12 +53,42 @@ def damages():
             proofs,
             lambda t, name=name: t.replace(f"proofs.{name}.Reads", f"proofs.{name}_other.Reads", 1),
         )
+        stated = rf"(pub {only} : )(OneAnswer[^\n]*(?:\n    [^\n]*)*)"
+        for what, change in (
+            ("in a comment", lambda t, s=stated: re.sub(s + r"(\n{0}[^\n]*(?:\n    [^\n]*)*)".format(only), r"{- \1\2\3 -}", t, count=1)),
+            ("with a premise", lambda t, s=stated: re.sub(s, r"\1⊥ → \2", t, count=1)),
+            ("over a richer contract", lambda t, s=stated: re.sub(s, lambda m: m[1] + re.sub(r"(\S+\.Post)", r"(λ κs a u x. \1 κs a u x × More)", m[2], count=1), t, count=1)),
+            ("by another `OneAnswer`", lambda t, s=stated: re.sub(s, r"\1fake.\2", t, count=1)),
+            ("by an `OneAnswer` from elsewhere", lambda t: t.replace("Rattle.words.proofs.OneAnswer.{", "Rattle.words.proofs.Lists.{", 1)),
+            ("with a view that forgets", lambda t, s=stated: re.sub(s, lambda m: m[1] + re.sub(r"λ κs u x\. (.*)\)$", r"λ κs u x. let w = \1 in 0)", m[2], flags=re.S), t, count=1)),
+        ):
+            yield f"a `{only}` {what}", "public-functions.py", proofs, change
+        if crate != "probe":
+            says = name.replace("_", "-") + "-says"
+            yield (
+                f"no `{says}`",
+                "public-functions.py",
+                proofs,
+                lambda t, says=says: t.replace(f"pub {says} :", f"pub not-{says} :", 1),
+            )
         yield (
             f"a `{only}` that sees no buffer",
             "public-functions.py",
             proofs,
             lambda t, only=only: re.sub(rf"(pub {only} :.*?λ κs u x\.)[^\n]*\)\n", r"\1 u)\n", t, count=1, flags=re.S),
         )
+    yield (
+        "a contract written out that is not tied to the code",
+        "public-functions.py",
+        "crates/pen/proofs/LineContract.antt",
+        lambda t: t.replace("pub post-is :", "pub post-was :", 1),
+    )
+    yield (
+        "a promise kept by a theorem in a comment",
+        "check-promises.py",
+        "crates/site/proofs/Trail.antt",
+        lambda t: t.replace("pub trail-met :", "{- pub trail-met :", 1) + "-}\n",
+    )
     yield (
         "a long line in a definition",
         "check-page.py",
@@ -79,9 +108,9 @@ def main(arguments):
     wrong = tried = 0
     with tempfile.TemporaryDirectory() as place:
         copy = Path(place)
-        for part in ("crates", "docs"):
-            shutil.copytree(root / part, copy / part)
-        for check in ("public-functions.py", "check-page.py"):
+        for part in ("crates", "docs", "tests", "scripts", "examples"):
+            shutil.copytree(root / part, copy / part, ignore=shutil.ignore_patterns("target"))
+        for check in ("public-functions.py", "check-page.py", "check-promises.py"):
             if refused(check, copy):
                 print(f"{check} refuses the copy as it is")
                 wrong += 1

@@ -38,6 +38,8 @@ pub record Demand-1 (c : JoinCall) : Type 0 where
   pub accepted : ((n p : ℕ) → CallCause c n p → ⊥) → Tells (c .answer) 0 (threeCounts (c .k) (callSite c))
   -- after 1 to 7 no buffer has changed
   pub unchanged : (n p : ℕ) → Tells (c .answer) n (p ∷ []) → (n ≡ 8 → ⊥) → (c .list′ ≡ c .list) × (c .work′ ≡ c .work) × (c .trail′ ≡ c .trail)
+  -- after acceptance the work area is all zero; demands 2 and 3 say what list and trail hold
+  pub cleared : (f e m : ℕ) → Tells (c .answer) 0 (f ∷ e ∷ m ∷ []) → c .work′ ≡ zeros (c .work)
   -- after 8 list, work area and trail are all zero
   pub emptied : (p : ℕ) → Tells (c .answer) 8 (p ∷ []) → (c .list′ ≡ zeros (c .list)) × (c .work′ ≡ zeros (c .work)) × (c .trail′ ≡ zeros (c .trail))
 
@@ -95,6 +97,7 @@ module _ {c : JoinCall} (j : Joins c) where
   joins-1 = record {
     exactly = λ n p. (refused-cause j n p, cause-refused j n p);
     accepted = none-accepted j;
+    cleared = λ f e m t. let a = listed-only j (tells-listed (c .answer) t) in j .found (a .0) (a .1) .work-zero;
     unchanged = refused-unchanged j;
     emptied = refused-emptied j;
   }
