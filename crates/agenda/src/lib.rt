@@ -6,8 +6,7 @@
 ghost use mathlib.Core.Path.{_≡_};
 ghost use Prim.Native.Nat.{_+_, _-_, _/_, _≤_, _<_};
 ghost use lib.ListN.{length, getD, getElem?, set, replicate};
-ghost use Rattle.site.specs.Measure.{inUse};
-ghost use Rattle.site.specs.Events.{Occurs, codeAt, eventsOf};
+ghost use Rattle.site.specs.Events.{Occurs, codeAt};
 ghost use Rattle.site.specs.Tables.{siteAt, siteIn};
 ghost use Rattle.words.specs.Words.{Holds};
 ghost use Rattle.tables.specs.Sound.{Sound};
@@ -15,7 +14,7 @@ ghost use Rattle.agenda.specs.Layout.{agendaRoom};
 ghost use Rattle.agenda.specs.Agenda.{postedOf, Agenda, summedTo, LaidOut};
 ghost use Rattle.agenda.specs.Postings.{postedIs, codesBelow};
 ghost use Rattle.agenda.specs.Tournament.{leftIn, leafWord, contenderOf, aheadBy, nodeWord, contenderAt, topNode, NodesPlayed, Moved};
-ghost use Rattle.agenda.specs.Next.{nextIs, eventIs};
+ghost use Rattle.agenda.specs.Next.{nextAfter, eventIs};
 use site::Context;
 use site::Place;
 use tables::context;
@@ -142,7 +141,7 @@ fn play_on(work: &[u16], t: usize, best: Contender) -> Contender
 pub fn next_event(offsets: &[u16], codes: &[u16], work: &[u16], events: usize) -> Next
     requires { ⌜ Sound (now offsets) (now codes) ⌝ }
     requires { ⌜ Agenda (siteIn offsets codes) events (now work) ⌝ }
-    ensures { λ r. ⌜ r ≡ nextIs (getElem? (eventsOf inUse (siteAt offsets codes)) events) ⌝ }
+    ensures { λ r. ⌜ r ≡ nextAfter (siteAt offsets codes) events ⌝ }
 {
     let top = top(offsets.len() - 1);
     let word = work[NODES + top];
@@ -236,7 +235,7 @@ pub fn note_event(
 )
     requires { ⌜ Sound (now offsets) (now codes) ⌝ }
     requires { ⌜ Agenda (siteIn offsets codes) events (now work) ⌝ }
-    requires { ⌜ nextIs (getElem? (eventsOf inUse (siteIn offsets codes)) events) ≡ Next.At c p ⌝ }
+    requires { ⌜ nextAfter (siteIn offsets codes) events ≡ Next.At c p ⌝ }
     requires { ⌜ n ≡ length (postedOf (siteIn offsets codes) events (codeAt (siteIn offsets codes) (eventIs c p))) ⌝ }
     ensures { λ _. ⌜ Agenda (siteAt offsets codes) (events + 1) (now (work .exit)) ⌝ }
     ensures { λ _. ⌜ length (now (work .exit)) ≡ length (now (work .entry)) ⌝ }

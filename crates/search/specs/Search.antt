@@ -17,6 +17,7 @@ use Rattle.site.specs.declared.Place.{Place}
 use Rattle.words.specs.Words.{Holds, Begins}
 use Rattle.marks.specs.Marks.{codeWords, marksOf}
 use Rattle.agenda.specs.Layout.{agendaRoom}
+use Rattle.agenda.specs.Agenda.{Agenda}
 use Rattle.agenda.specs.Next.{eventIs}
 use Rattle.entries.specs.Entries.{entryOf}
 use Rattle.entries.specs.declared.Entry.{Entry}
@@ -77,6 +78,10 @@ marksPart work = take codeWords (drop agendaRoom work)
 -- and behind these the marks of the pairs that were met
 abbrev pub pairsPart : List ℕ → List ℕ
 pairsPart work = take pairWords (drop (agendaRoom + codeWords) work)
+
+-- there is a work area, and the agenda stands in its part of it
+abbrev pub AgendaIn : Site → ℕ → List ℕ → Type 0
+AgendaIn site events work = (10240 ≤ length work) × Agenda site events (agendaPart work)
 
 -- only the marks of codes have changed
 abbrev pub Remarked : List ℕ → List ℕ → Type 0

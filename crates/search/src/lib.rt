@@ -10,7 +10,7 @@ ghost use lib.ListN.{length, getElem?};
 ghost use Rattle.site.specs.Measure.{inUse};
 ghost use Rattle.site.specs.Ratio.{reaches};
 ghost use Rattle.site.specs.Site.{codesOf, Pair};
-ghost use Rattle.site.specs.Events.{Occurs, codeAt, ceilingAt, cutOf, eventsOf, pairOf, metAfter};
+ghost use Rattle.site.specs.Events.{Occurs, codeAt, ceilingAt, cutOf, pairOf, metAfter};
 ghost use Rattle.site.specs.Tables.{siteAt, siteIn};
 ghost use Rattle.tables.specs.Sound.{Sound};
 ghost use Rattle.marks.specs.Marks.{codeWords, marksOf};
@@ -18,10 +18,10 @@ ghost use Rattle.entries.specs.Entries.{width, entryOf, Ordered};
 ghost use Rattle.entries.specs.Listed.{Listed, Proper};
 ghost use Rattle.agenda.specs.Agenda.{postedOf, Agenda};
 ghost use Rattle.agenda.specs.Postings.{postedIs};
-ghost use Rattle.agenda.specs.Next.{nextIs, eventIs};
+ghost use Rattle.agenda.specs.Next.{nextIs, nextAfter, eventIs};
 ghost use Rattle.agenda.specs.declared.Next.the-variants.{At};
 ghost use Rattle.search.specs.Search.{most, pairWords, contextIs, pairIs, Beside, sharedBy, firstHere, sharedHere, metWith};
-ghost use Rattle.search.specs.Search.{agendaPart, marksPart, pairsPart, Remarked, Laid, pairNumber, MetBefore, Noted};
+ghost use Rattle.search.specs.Search.{agendaPart, marksPart, pairsPart, AgendaIn, Remarked, Laid, pairNumber, MetBefore, Noted};
 ghost use Rattle.search.specs.Search.{withContexts, dueOf, AfterEvents, Meets, TakesEntry, Searched};
 ghost use Rattle.search.specs.Outcome.{outcome, zeros, searchOf};
 use agenda::Next;
@@ -345,7 +345,7 @@ fn earlier_at(
     n: usize,
 ) -> Posted
     requires { ⌜ Sound (now offsets) (now codes) ⌝ }
-    requires { ⌜ (10240 ≤ length (now work)) × Agenda (siteIn offsets codes) events (agendaPart (now work)) ⌝ }
+    requires { ⌜ AgendaIn (siteIn offsets codes) events (now work) ⌝ }
     requires { ⌜ code < 4096 ⌝ }
     ensures { λ r. ⌜ r ≡ postedIs (getElem? (postedOf (siteAt offsets codes) events code) n) ⌝ }
 {
@@ -363,7 +363,7 @@ fn mark_short(
     code: u16,
 ) -> bool
     requires { ⌜ Sound (now offsets) (now codes) ⌝ }
-    requires { ⌜ (10240 ≤ length (now work)) × Agenda (siteIn offsets codes) events (agendaPart (now work)) ⌝ }
+    requires { ⌜ AgendaIn (siteIn offsets codes) events (now work) ⌝ }
     requires { ⌜ (c .0 + 1 < length (now offsets)) × (code < 4096) ⌝ }
     ensures { λ r. ⌜ Remarked (now (work .entry)) (now (work .exit)) ⌝ }
     ensures { λ r. ⌜ Laid (siteAt offsets codes) c r (now (work .exit)) ⌝ }
@@ -397,8 +397,8 @@ fn turn(
     p: Place,
 ) -> Turned
     requires { ⌜ Sound (now offsets) (now codes) ⌝ }
-    requires { ⌜ (10240 ≤ length (now work)) × Agenda (siteIn offsets codes) events (agendaPart (now work)) ⌝ }
-    requires { ⌜ nextIs (getElem? (eventsOf inUse (siteIn offsets codes)) events) ≡ At c p ⌝ }
+    requires { ⌜ AgendaIn (siteIn offsets codes) events (now work) ⌝ }
+    requires { ⌜ nextAfter (siteIn offsets codes) events ≡ At c p ⌝ }
     requires { ⌜ (k ≤ 64) × (width * k ≤ length (now list)) ⌝ }
     requires { ⌜ AfterEvents (siteIn offsets codes) k events (now list) (now work) (now trail) counts ⌝ }
     ensures { λ r. ⌜ AfterEvents (siteAt offsets codes) k (events + 1) (now (list .exit)) (now (work .exit)) (now (trail .exit)) (r .counts) ⌝ }
@@ -455,8 +455,8 @@ fn stops(
 // The next event, from the agenda's part of the work area.
 fn next_at(offsets: &[u16], codes: &[u16], work: &[u16], events: usize) -> Next
     requires { ⌜ Sound (now offsets) (now codes) ⌝ }
-    requires { ⌜ (10240 ≤ length (now work)) × Agenda (siteIn offsets codes) events (agendaPart (now work)) ⌝ }
-    ensures { λ r. ⌜ r ≡ nextIs (getElem? (eventsOf inUse (siteAt offsets codes)) events) ⌝ }
+    requires { ⌜ AgendaIn (siteIn offsets codes) events (now work) ⌝ }
+    ensures { λ r. ⌜ r ≡ nextAfter (siteAt offsets codes) events ⌝ }
 {
     let part = &work[..AGENDA_END];
     next_event(offsets, codes, part, events)
@@ -473,7 +473,7 @@ fn event_due(
     events: usize,
 ) -> Next
     requires { ⌜ Sound (now offsets) (now codes) ⌝ }
-    requires { ⌜ (10240 ≤ length (now work)) × Agenda (siteIn offsets codes) events (agendaPart (now work)) ⌝ }
+    requires { ⌜ AgendaIn (siteIn offsets codes) events (now work) ⌝ }
     requires { ⌜ (0 < k) × (k ≤ 64) ⌝ }
     requires { ⌜ width * k ≤ length (now list) ⌝ }
     requires { ⌜ Listed (siteIn offsets codes) k (metAfter inUse (siteIn offsets codes) events) (now list) found ⌝ }
@@ -500,8 +500,8 @@ fn record_event(
     n: usize,
 )
     requires { ⌜ Sound (now offsets) (now codes) ⌝ }
-    requires { ⌜ (10240 ≤ length (now work)) × Agenda (siteIn offsets codes) events (agendaPart (now work)) ⌝ }
-    requires { ⌜ nextIs (getElem? (eventsOf inUse (siteIn offsets codes)) events) ≡ At c p ⌝ }
+    requires { ⌜ AgendaIn (siteIn offsets codes) events (now work) ⌝ }
+    requires { ⌜ nextAfter (siteIn offsets codes) events ≡ At c p ⌝ }
     requires { ⌜ n ≡ length (postedOf (siteIn offsets codes) events (codeAt (siteIn offsets codes) (eventIs c p))) ⌝ }
     ensures { λ _. ⌜ Agenda (siteAt offsets codes) (events + 1) (agendaPart (now (work .exit))) ⌝ }
     ensures { λ _. ⌜ pairsPart (now (work .exit)) ≡ pairsPart (now (work .entry)) ⌝ }
@@ -559,8 +559,8 @@ fn do_event(
     p: Place,
 ) -> Counts
     requires { ⌜ Sound (now offsets) (now codes) ⌝ }
-    requires { ⌜ (10240 ≤ length (now work)) × Agenda (siteIn offsets codes) events (agendaPart (now work)) ⌝ }
-    requires { ⌜ nextIs (getElem? (eventsOf inUse (siteIn offsets codes)) events) ≡ At c p ⌝ }
+    requires { ⌜ AgendaIn (siteIn offsets codes) events (now work) ⌝ }
+    requires { ⌜ nextAfter (siteIn offsets codes) events ≡ At c p ⌝ }
     requires { ⌜ (k ≤ 64) × (width * k ≤ length (now list)) ⌝ }
     requires { ⌜ AfterEvents (siteIn offsets codes) k events (now list) (now work) (now trail) counts ⌝ }
     ensures { λ r. ⌜ AfterEvents (siteAt offsets codes) k (events + 1) (now (list .exit)) (now (work .exit)) (now (trail .exit)) r ⌝ }
