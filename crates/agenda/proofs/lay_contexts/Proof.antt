@@ -16,19 +16,19 @@ abbrev μ-loop : tie.MeasureT-loop
 μ-loop offsets codes work₀ i₀ work i = length offsets - i
 
 loop-holds : tie.Need-loop-holds Inv-loop μ-loop
-loop-holds c = let s = c .before .before .before in laying-start (s .pre .0) (s .pre .1 .0) (s .pre .1 .1)
+loop-holds c = let u = c .before .before .before .pre in laying-start (u .0) (u .1 .0) (u .1 .1)
 
 sub-size : tie.Need-sub-size Inv-loop μ-loop
-sub-size c = offset-rises (c .before .before .before .loop .inv .sound) (c .before .before .before .loop .i) (c .before .before .loop-test .taken)
+sub-size c = let t = c .before .before in offset-rises (t .before .loop .inv .sound) (t .before .loop .i) (t .loop-test .taken)
 
 lay-context-requires : tie.Need-lay-context-requires Inv-loop μ-loop
-lay-context-requires c κs = let w = c .before .before .before .before .loop .inv in (w .room, omega (arith, w .few, c .before .before .before .loop-test .taken))
+lay-context-requires c κs = let t = c .before .before .before in let w = t .before .loop .inv in (w .room, omega (arith, w .few, t .loop-test .taken))
 
 loop-again : tie.Need-loop-again Inv-loop μ-loop
-loop-again c = laying-next (c .before .before .before .before .before .before .before .loop .inv) (c .before .before .before .before .before .before .loop-test .taken) _ refl (c .before .before .lay-context .ensures)
+loop-again c = let t = c .before .before .before .before .before .before in laying-next (t .before .loop .inv) (t .loop-test .taken) _ refl (c .before .before .lay-context .ensures)
 
 same-length : tie.Need-same-length Inv-loop μ-loop
-same-length c = let s = c .before .before .before .before .before in c .before .loop .inv .long ∙ length-set (s .args .work .now) 257 _
+same-length c = c .before .loop .inv .long ∙ length-set (c .before .before .before .before .before .args .work .now) 257 _
 
 returns : tie.Need-returns Inv-loop μ-loop
 returns c = laying-end (c .before .loop .inv) (c .loop-test .left)

@@ -1,3 +1,4 @@
+-- `join::join` meets its contract: the checks refuse the call, or the search's outcome is the join's.
 use Rattle.join.proofs.Outcomes.{join-refused, join-found}
 use Rattle.join.proofs.Checks.{call-accepted}
 use mathlib.Core.Path.{sym, _∙_}
@@ -6,10 +7,16 @@ use Rattle.join.proofs.join.Statement.{statement}
 use Rattle.join.proofs.join.Tie as tie
 
 returns : tie.Need-returns
-returns c = let a = c .before .before .before .before .before .before .before .before .before .args in join-refused (a .k) (a .offsets .now) (a .codes .now) (a .list .now) (a .work .now) (a .trail .now) (c .before .before .before .check-call .ensures) (c .before .checked .given .1)
+returns c =
+    let k = c .before .before .before in
+    let a = k .before .before .before .before .before .before .args in
+    join-refused (a .k) (a .offsets .now) (a .codes .now) (a .list .now) (a .work .now) (a .trail .now) (k .check-call .ensures) (c .before .checked .given .1)
 
 search-requires : tie.Need-search-requires
-search-requires c κs = let w = call-accepted _ _ _ _ _ (sym (c .before .before .before .before .before .check-call .ensures) ∙ c .before .before .before .enum-told .given .1) in (w .sound, ((w .some, w .few), (w .list-room, w .work-room)))
+search-requires c κs =
+    let t = c .before .before .before in
+    let w = call-accepted _ _ _ _ _ (sym (t .before .before .check-call .ensures) ∙ t .enum-told .given .1) in
+    (w .sound, ((w .some, w .few), (w .list-room, w .work-room)))
 
 returns-2 : tie.Need-returns-2
 returns-2 c =

@@ -9,16 +9,19 @@ context-requires : tie.Need-context-requires
 context-requires c κs = (passed _ _ (c .before .before .check-tables .ensures) (c .enum-told .given .1), omega arith)
 
 context-requires-2 : tie.Need-context-requires-2
-context-requires-2 c κs = (passed _ _ (c .before .before .before .check-tables .ensures) (c .before .enum-told .given .1), omega arith)
+context-requires-2 c κs = (context-requires (c .before) κs .0, omega arith)
 
 shared-count-requires : tie.Need-shared-count-requires
-shared-count-requires c κs = walkable _ _ (c .before .before .before .before .check-tables .ensures) (c .before .before .enum-told .given .1) (c .before .before .before .before .before .if1 .left) (c .before .context .ensures) (c .context2 .ensures)
+shared-count-requires c κs =
+    let fine = c .before .before in
+    let k = fine .before .before in
+    walkable _ _ (k .check-tables .ensures) (fine .enum-told .given .1) (k .before .if1 .left) (c .before .context .ensures) (c .context2 .ensures)
 
 union-count-requires : tie.Need-union-count-requires
-union-count-requires c κs = (walkable _ _ (c .before .before .before .before .before .check-tables .ensures) (c .before .before .before .enum-told .given .1) (c .before .before .before .before .before .before .if1 .left) (c .before .before .context .ensures) (c .before .context2 .ensures) .1, c .shared-count .ensures)
+union-count-requires c κs = (shared-count-requires (c .before) κs .1, c .shared-count .ensures)
 
 meet-requires : tie.Need-meet-requires
-meet-requires c κs = walkable _ _ (c .before .before .before .before .before .before .check-tables .ensures) (c .before .before .before .before .enum-told .given .1) (c .before .before .before .before .before .before .before .if1 .left) (c .before .before .before .context .ensures) (c .before .before .context2 .ensures)
+meet-requires c κs = shared-count-requires (c .before .before) κs
 
 pub say-pair-spec : {M : Type 1} → statement M
 say-pair-spec =

@@ -7,17 +7,19 @@ use Rattle.listing.proofs.list_sheet.Tie as tie
 returns : tie.Need-returns
 returns c =
     let z = c .before .before in
-    let l = z .before .before .before .before .before .before .list-into in
-    listing-refused (l .ensures) (l .kept .1 .0) (z .before .before .enum-told .given .1) (z .zero-bytes .ensures)
+    let told = z .before .before in
+    let l = told .before .before .before .before .list-into in
+    listing-refused (l .ensures) (l .kept .1 .0) (told .enum-told .given .1) (z .zero-bytes .ensures)
 
 zero-bytes-requires-2 : tie.Need-zero-bytes-requires-2
-zero-bytes-requires-2 c κs = put-room (c .before .before .before .before .before .before .list-into .ensures) (c .before .before .r .given .1)
+zero-bytes-requires-2 c κs = let on = c .before .before in put-room (on .before .before .before .before .list-into .ensures) (on .r .given .1)
 
 returns-2 : tie.Need-returns-2
 returns-2 c =
     let z = c .before .before in
-    let l = z .before .before .before .before .before .before .before .list-into in
-    listing-done (l .ensures) (l .kept .1 .0) (z .before .before .before .r .given .1) (z .zero-bytes2 .ensures)
+    let on = z .before .before .before in
+    let l = on .before .before .before .before .list-into in
+    listing-done (l .ensures) (l .kept .1 .0) (on .r .given .1) (z .zero-bytes2 .ensures)
 
 pub list-sheet-spec : {M : Type 1} → statement M
 list-sheet-spec =

@@ -6,27 +6,27 @@ use Rattle.listing.proofs.Putting.{text-full, put-full, put-text}
 use Rattle.listing.proofs.write_listing.Statement.{statement}
 use Rattle.listing.proofs.write_listing.Tie as tie
 
+-- the counts, from the pen behind them
+abbrev counts : tie.After-r → tie.After-add-counts
+counts on = on .before .before .before .before
+
 returns : tie.Need-returns
 returns c = text-full _ (c .before .before .before .before .add-counts .ensures) (c .enum-told .given .1)
 
 add-entries-requires : tie.Need-add-entries-requires
-add-entries-requires c κs =
-    let a = c .before .before .before .before .before .before in
-    (added-fits (a .add-counts .ensures) (c .before .before .r .given .1), a .before .before .before .before .pre)
+add-entries-requires c κs = let on = c .before .before in (added-fits (counts on .add-counts .ensures) (on .r .given .1), counts on .before .before .before .before .pre)
 
 returns-2 : tie.Need-returns-2
 returns-2 c =
     let e = c .before .before .before .before in
-    let q = e .before .before .before in
-    let a = q .before .before .before .before in
-    put-full (added-then (a .add-counts .ensures) (omega arith) (q .r .given .1) (e .add-entries .ensures)) (c .enum-told2 .given .1)
+    let on = e .before .before .before in
+    put-full (added-then (counts on .add-counts .ensures) (omega arith) (on .r .given .1) (e .add-entries .ensures)) (c .enum-told2 .given .1)
 
 returns-3 : tie.Need-returns-3
 returns-3 c =
     let e = c .before .before .before .before .before in
-    let q = e .before .before .before in
-    let a = q .before .before .before .before in
-    put-text (added-then (a .add-counts .ensures) (omega arith) (q .r .given .1) (e .add-entries .ensures)) (c .before .r2 .given .1)
+    let on = e .before .before .before in
+    put-text (added-then (counts on .add-counts .ensures) (omega arith) (on .r .given .1) (e .add-entries .ensures)) (c .before .r2 .given .1)
 
 pub write-listing-spec : {M : Type 1} → statement M
 write-listing-spec =

@@ -1,3 +1,4 @@
+-- `marks::mark` meets its contract: `Marking` is its invariant, over zeros throughout.
 use mathlib.Core.Path.{_∙_, sym}
 use Prim.Native.Nat.{_-_}
 use lib.ListN.{length}
@@ -12,17 +13,25 @@ Inv-loop marks₀ xs n₀ marks n = Marking xs marks n
 abbrev μ-loop : tie.MeasureT-loop
 μ-loop marks₀ xs n₀ marks n = length xs - n
 
+-- the entry, from the loop
+abbrev entry : tie.At-loop Inv-loop μ-loop → tie.Start Inv-loop μ-loop
+entry loop = loop .before .before .before .before .before .before .before
+
 loop-holds : tie.Need-loop-holds Inv-loop μ-loop
 loop-holds c = let s = c .before .before .before .before .before .before in marking-start (s .args .marks .now) (s .pre .0) (c .before .before .zero-words .ensures)
 
 put-mark-requires : tie.Need-put-mark-requires Inv-loop μ-loop
-put-mark-requires c κs = let s = c .before .before .before .before .before .before .before .before .before .before in code-marked (s .args .xs .now) (c .before .before .before .loop .marks) (c .before .before .before .loop .inv .long) (s .pre .1) _ (c .before .before .loop-test .taken)
+put-mark-requires c κs =
+    let t = c .before .before in
+    let l = t .before in
+    let s = entry l in
+    code-marked (s .args .xs .now) (l .loop .marks) (l .loop .inv .long) (s .pre .1) _ (t .loop-test .taken)
 
 loop-again : tie.Need-loop-again Inv-loop μ-loop
-loop-again c = let s = c .before .before .before .before .before .before .before .before .before .before .before .before .before in marking-next (c .before .before .before .before .before .before .loop .inv) (c .before .before .before .before .before .loop-test .taken) (s .pre .1) (c .before .before .put-mark .ensures)
+loop-again c = let t = c .before .before .before .before .before in marking-next (t .before .loop .inv) (t .loop-test .taken) (entry (t .before) .pre .1) (c .before .before .put-mark .ensures)
 
 same-length : tie.Need-same-length Inv-loop μ-loop
-same-length c = c .before .loop .inv .long ∙ sym (c .before .before .before .before .before .before .before .before .pre .0)
+same-length c = c .before .loop .inv .long ∙ sym (entry (c .before) .pre .0)
 
 returns : tie.Need-returns Inv-loop μ-loop
 returns c = search marking-end

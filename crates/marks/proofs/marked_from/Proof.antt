@@ -1,3 +1,4 @@
+-- `marks::marked_from` meets its contract: `Looking` is its invariant, up to the first code that is marked.
 use Rattle.marks.proofs.Loops.{Looking, code-marked, looking-start, looking-next, looking-other, looking-here, looking-end}
 use lib.ListN.{length}
 use Prim.Native.Nat.{_-_}
@@ -18,13 +19,20 @@ bit-of-requires : tie.Need-bit-of-requires Inv-loop μ-loop
 bit-of-requires c κs = let s = c .before .before .before .before .before in code-marked (s .args .ys .now) (s .args .marks .now) (s .pre .0 .0) (s .pre .0 .1) _ (c .before .loop-test .taken)
 
 returns : tie.Need-returns Inv-loop μ-loop
-returns c = looking-other (c .before .before .before .before .before .loop .inv) (c .before .before .before .before .loop-test .taken) (c .before .before .bit-of .ensures) (c .before .if1 .taken) (c .if2 .taken)
+returns c =
+    let b = c .before .before in
+    let t = b .before .before in
+    looking-other (t .before .loop .inv) (t .loop-test .taken) (b .bit-of .ensures) (c .before .if1 .taken) (c .if2 .taken)
 
 returns-2 : tie.Need-returns-2 Inv-loop μ-loop
-returns-2 c = looking-here (c .before .before .before .before .before .before .loop .inv) (c .before .before .before .before .before .loop-test .taken) (c .before .before .before .bit-of .ensures) (c .before .before .if1 .taken) (c .before .if2 .left) (c .count-from .ensures)
+returns-2 c =
+    let o = c .before .before in
+    let b = o .before in
+    let t = b .before .before in
+    looking-here (t .before .loop .inv) (t .loop-test .taken) (b .bit-of .ensures) (o .if1 .taken) (c .before .if2 .left) (c .count-from .ensures)
 
 loop-again : tie.Need-loop-again Inv-loop μ-loop
-loop-again c = looking-next (c .before .before .before .before .loop .inv) (c .before .before .before .loop-test .taken) (c .before .bit-of .ensures) (c .if1 .left)
+loop-again c = let t = c .before .before .before in looking-next (t .before .loop .inv) (t .loop-test .taken) (c .before .bit-of .ensures) (c .if1 .left)
 
 returns-3 : tie.Need-returns-3 Inv-loop μ-loop
 returns-3 c = looking-end (c .before .loop .inv) (c .loop-test .left)

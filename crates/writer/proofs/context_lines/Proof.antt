@@ -20,47 +20,54 @@ Inv-loop text₀ offsets codes at₀ i₀ t9 text at i = Grown linesText (siteOf
 abbrev μ-loop : tie.MeasureT-loop
 μ-loop text₀ offsets codes at₀ i₀ t9 text at i = length offsets - i
 
+-- the entry, from the loop; and a turn's line, from the turn's end
+abbrev entry : tie.At-loop Inv-loop μ-loop → tie.Start Inv-loop μ-loop
+entry loop = loop .before .before .before .before
+
+abbrev line : tie.After-struct-known2 Inv-loop μ-loop → tie.After-line-by Inv-loop μ-loop
+line end = end .before .before .before .before
+
 loop-holds : tie.Need-loop-holds Inv-loop μ-loop
 loop-holds c = grown-start lines-grow _ (c .before .before .before .pre .0)
 
 add-loop : tie.Need-add-loop Inv-loop μ-loop
-add-loop c = let s = c .before .before .before .before in omega (arith, c .loop .inv .within, contexts-are (s .pre .1), s .pre .1 .few)
+add-loop c = let u = entry c .pre .1 in omega (arith, c .loop .inv .within, contexts-are u, u .few)
 
 cast-t13 : tie.Need-cast-t13 Inv-loop μ-loop
-cast-t13 c = omega (arith, c .loop-test .taken, c .before .before .before .before .before .pre .1 .few)
+cast-t13 c = omega (arith, c .loop-test .taken, entry (c .before) .pre .1 .few)
 
 context-requires : tie.Need-context-requires Inv-loop μ-loop
-context-requires c κs = (c .before .before .before .before .before .pre .1, c .loop-test .taken)
+context-requires c κs = (entry (c .before) .pre .1, c .loop-test .taken)
 
 line-by-requires : tie.Need-line-by-requires Inv-loop μ-loop
 line-by-requires c κs = c .before .before .before .before .loop .inv .past .fits
 
 same-length : tie.Need-same-length Inv-loop μ-loop
-same-length c =
-    let x = c .before .before .before .before .before in
-    x .line-by .kept .0 ∙ x .before .before .before .before .before .loop .inv .past .long
+same-length c = let x = line (c .before) in x .line-by .kept .0 ∙ x .before .before .before .before .before .loop .inv .past .long
 
 returns : tie.Need-returns Inv-loop μ-loop
 returns c =
-    let x = c .before .before .before .before .before in
+    let x = line (c .before) in
     let t = x .before .before .before .before in
-    let s = t .before .before .before .before .before in
-    let w = context-lined (s .pre .1) _ (x .before .before .before .context .ensures) (x .line-by .ensures) in
-    added-none (x .line-by .kept .0 ∙ t .before .loop .inv .past .long) (grown-full lines-grow [] (s .pre .0) (t .before .loop .inv) (in-site (s .pre .1) _ (t .loop-test .taken)) w (line-some cKey _) (c .if1 .taken))
+    let l = t .before in
+    let u = entry l .pre in
+    let w = context-lined (u .1) _ (x .before .before .before .context .ensures) (x .line-by .ensures) in
+    added-none (same-length c) (grown-full lines-grow [] (u .0) (l .loop .inv) (in-site (u .1) _ (t .loop-test .taken)) w (line-some cKey _) (c .if1 .taken))
 
 loop-again : tie.Need-loop-again Inv-loop μ-loop
 loop-again c =
-    let x = c .before .before .before .before .before in
+    let x = line (c .before) in
     let t = x .before .before .before .before in
-    let s = t .before .before .before .before .before in
-    let w = context-lined (s .pre .1) _ (x .before .before .before .context .ensures) (x .line-by .ensures) in
-    grown-next lines-grow [] (s .pre .0) (t .before .loop .inv) (in-site (s .pre .1) _ (t .loop-test .taken)) w (c .if1 .left)
+    let l = t .before in
+    let u = entry l .pre in
+    let w = context-lined (u .1) _ (x .before .before .before .context .ensures) (x .line-by .ensures) in
+    grown-next lines-grow [] (u .0) (l .loop .inv) (in-site (u .1) _ (t .loop-test .taken)) w (c .if1 .left)
 
 same-length-2 : tie.Need-same-length-2 Inv-loop μ-loop
 same-length-2 c = c .before .loop .inv .past .long
 
 returns-2 : tie.Need-returns-2 Inv-loop μ-loop
-returns-2 c = added-on (grown-end (c .before .loop .inv) (site-done (c .before .before .before .before .before .pre .1) _ (c .loop-test .left)))
+returns-2 c = let l = c .before in added-on (grown-end (l .loop .inv) (site-done (entry l .pre .1) _ (c .loop-test .left)))
 
 pub context-lines-spec : {M : Type 1} → statement M
 context-lines-spec =

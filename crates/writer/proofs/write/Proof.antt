@@ -7,27 +7,32 @@ use Rattle.writer.proofs.write.Statement.{statement}
 use Rattle.writer.proofs.write.Tie as tie
 
 returns : tie.Need-returns
-returns c = let t = c .before .before .before in let a = t .before .before .before .before .args in write-refused (a .k) (a .offsets .now) (a .codes .now) (a .text .now) (t .check-tables .ensures) (c .before .c .given .1)
+returns c =
+    let t = c .before .before .before in
+    let a = t .before .before .before .before .args in
+    write-refused (a .k) (a .offsets .now) (a .codes .now) (a .text .now) (t .check-tables .ensures) (c .before .c .given .1)
 
 sheet-lines-requires : tie.Need-sheet-lines-requires
 sheet-lines-requires c κs = accepted _ _ _ (sym (c .before .before .before .check-tables .ensures) ∙ c .before .enum-told .given .1) .sound
 
 returns-2 : tie.Need-returns-2
 returns-2 c =
-    let s = c .before .before .before .before .before .before .before .before in
+    let full = c .before .before .before .before in
+    let s = full .before .before .before .before in
     let t = s .before .before .before .before in
     let a = t .before .before .before .before .args in
-    write-full (a .k) (a .offsets .now) (a .codes .now) (a .text .now) (t .check-tables .ensures) (s .before .before .enum-told .given .1) (s .sheet-lines .ensures) (c .before .before .before .before .enum-told2 .given .1) (c .before .before .zero-bytes .ensures)
+    write-full (a .k) (a .offsets .now) (a .codes .now) (a .text .now) (t .check-tables .ensures) (s .before .before .enum-told .given .1) (s .sheet-lines .ensures) (full .enum-told2 .given .1) (c .before .before .zero-bytes .ensures)
 
 zero-bytes-requires-2 : tie.Need-zero-bytes-requires-2
-zero-bytes-requires-2 c κs = written-fits (c .before .before .before .before .before .before .sheet-lines .ensures) (c .before .before .r .given .1)
+zero-bytes-requires-2 c κs = let on = c .before .before in written-fits (on .before .before .before .before .sheet-lines .ensures) (on .r .given .1)
 
 returns-3 : tie.Need-returns-3
 returns-3 c =
-    let s = c .before .before .before .before .before .before .before .before .before in
+    let on = c .before .before .before .before .before in
+    let s = on .before .before .before .before in
     let t = s .before .before .before .before in
     let a = t .before .before .before .before .args in
-    write-done (a .k) (a .offsets .now) (a .codes .now) (a .text .now) (t .check-tables .ensures) (s .before .before .enum-told .given .1) (s .sheet-lines .ensures) (c .before .before .before .before .before .r .given .1) (c .before .before .zero-bytes2 .ensures)
+    write-done (a .k) (a .offsets .now) (a .codes .now) (a .text .now) (t .check-tables .ensures) (s .before .before .enum-told .given .1) (s .sheet-lines .ensures) (on .r .given .1) (c .before .before .zero-bytes2 .ensures)
 
 pub write-spec : {M : Type 1} → statement M
 write-spec =
