@@ -1,3 +1,4 @@
+-- `join::check_call` meets its contract: the tables are checked first, and the rooms behind them.
 use Rattle.tables.proofs.Checks.{refused-first, fine-first}
 use Rattle.join.specs.Join.{callCheck}
 use borrow.Author.Needs.{needs}

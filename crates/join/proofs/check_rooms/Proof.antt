@@ -1,3 +1,4 @@
+-- `join::check_rooms` meets its contract: each return is an arm of `roomsCheck`.
 use Rattle.words.proofs.Tests.{tests}
 use Rattle.join.specs.Join.{roomsCheck}
 use borrow.Author.Needs.{needs}

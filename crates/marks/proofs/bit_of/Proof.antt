@@ -1,3 +1,4 @@
+-- `marks::bit_of` meets its contract: it computes what `bitOf` says.
 use mathlib.Core.Path.{refl}
 use Rattle.marks.specs.Marks.{bitOf}
 use borrow.Author.Needs.{needs}

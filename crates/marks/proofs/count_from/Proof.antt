@@ -1,3 +1,4 @@
+-- `marks::count_from` meets its contract: `Counting` is its invariant.
 use native.Mathlib.Omega.{arith}
 use Prim.Native.Nat.{_-_}
 use lib.ListN.{length, drop}

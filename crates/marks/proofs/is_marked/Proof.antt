@@ -1,3 +1,4 @@
+-- `marks::is_marked` meets its contract: the bit is 0 or not.
 use Rattle.marks.specs.Marks.{isMarked}
 use lib.Dec.{eqb}
 use mathlib.Core.Bool.{not}

@@ -1,3 +1,4 @@
+-- `marks::put_mark` meets its contract: 1 shifted is the power of two that is joined to the word.
 use native.Mathlib.Omega.{arith}
 use mathlib.Core.Path.{ap}
 use Prim.Native.Nat.{ℕ, _/_, _%_}

@@ -1,3 +1,4 @@
+-- `probe::put_write` meets its contract: four words for each of the answers.
 use Rattle.words.specs.Words.{padded}
 use Rattle.probe.specs.Probe.{fourWords}
 use borrow.Author.Needs.{needs}

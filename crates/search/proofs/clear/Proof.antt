@@ -1,3 +1,4 @@
+-- `search::clear` meets its contract: zeros from the first word on.
 use lib.ListN.{length}
 use Rattle.search.proofs.Outcomes.{all-zero}
 use borrow.Author.Needs.{needs}

@@ -1,3 +1,4 @@
+-- `search::clear_pairs` meets its contract: zeros are the marks of no pair.
 use Rattle.search.proofs.Areas.{pairs-long, pairs-written}
 use Rattle.search.specs.Search.{pairWords}
 use Rattle.marks.proofs.Marked.{marks-none}

@@ -1,3 +1,4 @@
+-- `search::mark_short` meets its contract: no mark is put, or `lay_marks` puts them.
 use Rattle.order.proofs.Lists.{never}
 use mathlib.Core.Path.{refl}
 use borrow.Author.Needs.{needs}
@@ -14,10 +15,10 @@ returns-3 : tie.Need-returns-3
 returns-3 c = ((refl, refl), λ e. never e refl)
 
 lay-marks-requires : tie.Need-lay-marks-requires
-lay-marks-requires c κs = let s = c .before .before .before .before .before .before .before .before .before .before .before in (s .pre .0, (s .pre .1 .1 .0, s .pre .1 .0 .0))
+lay-marks-requires c κs = let u = c .before .before .before .before .before .before .before .before .before .before .before .pre in (u .0, (u .1 .1 .0, u .1 .0 .0))
 
 returns-4 : tie.Need-returns-4
-returns-4 c = (c .before .before .lay-marks .ensures .0, λ e. c .before .before .lay-marks .ensures .1)
+returns-4 c = let e = c .before .before .lay-marks .ensures in (e .0, λ t. e .1)
 
 pub mark-short-spec : {M : Type 1} → statement M
 mark-short-spec =

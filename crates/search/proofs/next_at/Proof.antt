@@ -1,3 +1,4 @@
+-- `search::next_at` meets its contract: the part lent to the agenda is as long as the agenda.
 use mathlib.Core.Path.{sym}
 use Rattle.search.proofs.Areas.{agenda-long}
 use borrow.Author.Needs.{needs}

@@ -1,3 +1,4 @@
+-- `search::pair_number` meets its contract: each return is an arm of the pair's order.
 use Rattle.search.proofs.Seen.{number-so, number-back}
 use borrow.Author.Needs.{needs}
 use Rattle.search.proofs.pair_number.Statement.{statement}

@@ -1,3 +1,4 @@
+-- `search::record_event` meets its contract: `note_event` changes the part lent to it, and leaves the others.
 use mathlib.Core.Path.{sym}
 use Rattle.search.proofs.Areas.{agenda-long, agenda-written, agenda-besides}
 use borrow.Author.Needs.{needs}
@@ -8,10 +9,14 @@ slice-aggregate-note-event : tie.Need-slice-aggregate-note-event
 slice-aggregate-note-event c = let s = c .before .before .before .before in sym (agenda-long (s .args .work .now) (s .pre .1 .0 .0))
 
 returns : tie.Need-returns
-returns c = let s = c .before .before .before .before .before .before .before in
+returns c =
+    let s = c .before .before .before .before .before .before .before in
+    let w = s .args .work .now in
+    let room = s .pre .1 .0 .0 in
     let e = c .before .before .note-event in
+    let out = e .last .1 .1 .0 in
     let long = e .kept .1 .1 .0 in
-    (rw (agenda-written (s .args .work .now) (s .pre .1 .0 .0) (e .last .1 .1 .0) long) (e .ensures .0), agenda-besides (s .args .work .now) (s .pre .1 .0 .0) (e .last .1 .1 .0) long)
+    (rw (agenda-written w room out long) (e .ensures .0), agenda-besides w room out long)
 
 pub record-event-spec : {M : Type 1} → statement M
 record-event-spec =

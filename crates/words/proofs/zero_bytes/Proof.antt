@@ -1,3 +1,4 @@
+-- `words::zero_bytes` meets its contract: `Zeroed` is its invariant.
 use Rattle.words.proofs.Zeroed.{Zeroed, zeroed-start, zeroed-next, zeroed-end}
 use lib.ListN.{length}
 use Prim.Native.Nat.{_-_}
