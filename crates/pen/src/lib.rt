@@ -187,7 +187,8 @@ pub fn line_by(text: &mut [u8], pen: Pen, key: &[u8], numbers: &[u16]) -> Pen
     lent
 }
 
-// Lends one pen to two lines in turn. Thin, and walked by hand.
+// Lends one pen to two lines in turn. A line without room leaves text and pen as they were, and the next one is written from there:
+// `between` tells whether the first had room. Thin, and walked by hand.
 pub fn two_lines(
     text: &mut [u8],
     pen: Pen,
