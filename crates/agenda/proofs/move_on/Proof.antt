@@ -58,15 +58,17 @@ same-length : tie.Need-same-length Inv-loop μ-loop
 same-length c =
     let l = leaf (c .before) in
     let s = entry l in
-    c .before .loop .inv .climbing .framed .long ∙ lessened-long (subtree _ (s .pre .1 .0 .1)) (s .pre .0) (s .args .c .0 + 1) (omega arith) (few s) _ (l .leaf-word .ensures)
+    let tree = subtree _ (s .pre .1 .0 .1) in
+    c .before .loop .inv .climbing .framed .long ∙ lessened-long tree (s .pre .0) (s .args .c .0 + 1) (omega arith) (few s) _ (l .leaf-word .ensures)
 
 returns : tie.Need-returns Inv-loop μ-loop
 returns c =
     let l = leaf (c .before) in
     let s = entry l in
     let w = c .before .loop .inv .climbing in
+    let e = l .before .before .before .top .ensures in
     let tree = subtree _ (s .pre .1 .0 .1) in
-    climbing-end tree (s .pre .0) (s .args .c .0 + 1) (omega arith) (few s) _ (l .leaf-word .ensures) w (omega (arith, c .loop-test .left, l .before .before .before .top .ensures, w .low)) refl
+    climbing-end tree (s .pre .0) (s .args .c .0 + 1) (omega arith) (few s) _ (l .leaf-word .ensures) w (omega (arith, c .loop-test .left, e, w .low)) refl
 
 pub move-on-spec : {M : Type 1} → statement M
 move-on-spec =

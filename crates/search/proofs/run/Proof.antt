@@ -97,8 +97,9 @@ events-again c =
     let d = done (c .before) in
     let n = next d in
     let due = sym (n .before .before .event-due .ensures) ∙ n .next .given .1 in
+    let e = d .do-event .ensures in
     let long = d .do-event .kept .1 .1 .1 in
-    searching-next (entry (laid (turn n)) .pre .0) (turn n .events .inv) due (d .do-event .ensures .0) (c .if1 .left) (d .do-event .ensures .1) (long .0) (long .1 .0) (long .1 .1 .0)
+    searching-next (entry (laid (turn n)) .pre .0) (turn n .events .inv) due (e .0) (c .if1 .left) (e .1) (long .0) (long .1 .0) (long .1 .1 .0)
 
 same-length-4 : tie.Need-same-length-4 Inv-events μ-events
 same-length-4 c = last c .events .inv .list-long

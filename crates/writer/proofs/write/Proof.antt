@@ -21,7 +21,9 @@ returns-2 c =
     let s = full .before .before .before .before in
     let t = s .before .before .before .before in
     let a = t .before .before .before .before .args in
-    write-full (a .k) (a .offsets .now) (a .codes .now) (a .text .now) (t .check-tables .ensures) (s .before .before .enum-told .given .1) (s .sheet-lines .ensures) (full .enum-told2 .given .1) (c .before .before .zero-bytes .ensures)
+    let fine = s .before .before .enum-told .given .1 in
+    let put = s .sheet-lines .ensures in
+    write-full (a .k) (a .offsets .now) (a .codes .now) (a .text .now) (t .check-tables .ensures) fine put (full .enum-told2 .given .1) (c .before .before .zero-bytes .ensures)
 
 zero-bytes-requires-2 : tie.Need-zero-bytes-requires-2
 zero-bytes-requires-2 c κs = let on = c .before .before in written-fits (on .before .before .before .before .sheet-lines .ensures) (on .r .given .1)
@@ -32,7 +34,9 @@ returns-3 c =
     let s = on .before .before .before .before in
     let t = s .before .before .before .before in
     let a = t .before .before .before .before .args in
-    write-done (a .k) (a .offsets .now) (a .codes .now) (a .text .now) (t .check-tables .ensures) (s .before .before .enum-told .given .1) (s .sheet-lines .ensures) (on .r .given .1) (c .before .before .zero-bytes2 .ensures)
+    let fine = s .before .before .enum-told .given .1 in
+    let put = s .sheet-lines .ensures in
+    write-done (a .k) (a .offsets .now) (a .codes .now) (a .text .now) (t .check-tables .ensures) fine put (on .r .given .1) (c .before .before .zero-bytes2 .ensures)
 
 pub write-spec : {M : Type 1} → statement M
 write-spec =
