@@ -28,23 +28,19 @@ stops-requires c κs =
 returns-2 : tie.Need-returns-2
 returns-2 c =
     let n = c .before .before .before in
-    let s = entry n in
-    let a = s .args in
-    let site = siteOf (a .offsets .now) (a .codes .now) in
+    let u = entry n .pre in
     let m = coming _ _ (sym (n .before .before .next-at .ensures) ∙ n .next .given .1) in
-    let told = c .before .stops .ensures _ (after-proper site (sound-rises (s .pre .0)) (a .events)) (s .pre .1 .1 .1 .1) in
-    due-below site (a .k) (a .events) m (not-true _ (sym told ∙ c .if1 .taken))
+    let told = c .before .stops .ensures _ (after-proper _ (sound-rises (u .0)) _) (u .1 .1 .1 .1) in
+    due-below _ _ _ m (not-true _ (sym told ∙ c .if1 .taken))
 
 returns-3 : tie.Need-returns-3
 returns-3 c =
     let n = c .before .before .before in
-    let s = entry n in
-    let a = s .args in
-    let site = siteOf (a .offsets .now) (a .codes .now) in
+    let u = entry n .pre in
     let e = n .before .before .next-at .ensures in
     let is = n .next .given .1 in
-    let told = c .before .stops .ensures _ (after-proper site (sound-rises (s .pre .0)) (a .events)) (s .pre .1 .1 .1 .1) in
-    sym is ∙ due-next site (a .k) (a .events) (coming _ _ (sym e ∙ is)) (not-false _ (sym told ∙ c .if1 .left)) e
+    let told = c .before .stops .ensures _ (after-proper _ (sound-rises (u .0)) _) (u .1 .1 .1 .1) in
+    sym is ∙ due-next _ _ _ (coming _ _ (sym e ∙ is)) (not-false _ (sym told ∙ c .if1 .left)) e
 
 pub event-due-spec : {M : Type 1} → statement M
 event-due-spec =
