@@ -3,7 +3,6 @@ use Rattle.search.proofs.Due.{due-over, due-below, due-next}
 use Rattle.search.proofs.Gained.{after-proper}
 use Rattle.agenda.proofs.Coming.{coming}
 use Rattle.tables.proofs.Sound.{sound-rises}
-use Rattle.site.specs.Tables.{siteOf}
 use mathlib.Core.Path.{sym, _∙_}
 use borrow.Author.Tests.{not-true, not-false}
 use borrow.Author.Needs.{needs}
@@ -15,9 +14,7 @@ abbrev entry : tie.After-next → tie.Start
 entry next = next .before .before .before .before .before .before .before
 
 returns : tie.Need-returns
-returns c =
-    let a = c .before .before .before .before .before .before .before .args in
-    due-over (siteOf (a .offsets .now) (a .codes .now)) (a .k) (a .events) (c .before .before .next-at .ensures) (c .enum-told .given .1)
+returns c = due-over _ _ _ (c .before .before .next-at .ensures) (c .enum-told .given .1)
 
 stops-requires : tie.Need-stops-requires
 stops-requires c κs =

@@ -1,7 +1,6 @@
 -- `search::run` meets its contract: the loop over the events keeps `Searching`, and ends where none is due or the trail is full.
 use Rattle.search.proofs.Searching.{Searching, searching-start, searching-next, searching-full, searching-end, more-left}
 use Rattle.search.proofs.Due.{due-at}
-use Rattle.site.specs.Tables.{siteOf}
 use native.Mathlib.Omega.{arith}
 use lib.ListN.{length}
 use Prim.Native.Nat.{_-_}
@@ -58,7 +57,7 @@ do-event-requires c κs =
     let l = laid (turn n) in
     let s = entry l in
     let u = s .pre in
-    let due = due-at (siteOf (s .args .offsets .now) (s .args .codes .now)) (s .args .k) _ (sym (n .before .before .event-due .ensures) ∙ n .next .given .1) .0 in
+    let due = due-at _ _ _ (sym (n .before .before .event-due .ensures) ∙ n .next .given .1) .0 in
     let room = u .1 .1 .0 in
     (u .0, ((omega (arith, w .work-long, l .lay-work .kept .1 .1 .0, room .1), w .agenda), (due, ((u .1 .0 .1, omega (arith, w .list-long, room .0)), w .after))))
 
