@@ -55,8 +55,7 @@ do-event-requires c κs =
     let n = c .before .before .before .before in
     let w = turn n .events .inv in
     let l = laid (turn n) in
-    let s = entry l in
-    let u = s .pre in
+    let u = entry l .pre in
     let due = due-at _ _ _ (sym (n .before .before .event-due .ensures) ∙ n .next .given .1) .0 in
     let room = u .1 .1 .0 in
     (u .0, ((omega (arith, w .work-long, l .lay-work .kept .1 .1 .0, room .1), w .agenda), (due, ((u .1 .0 .1, omega (arith, w .list-long, room .0)), w .after))))
