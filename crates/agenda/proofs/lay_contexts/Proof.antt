@@ -25,7 +25,9 @@ lay-context-requires : tie.Need-lay-context-requires Inv-loop μ-loop
 lay-context-requires c κs = let t = c .before .before .before in let w = t .before .loop .inv in (w .room, omega (arith, w .few, t .loop-test .taken))
 
 loop-again : tie.Need-loop-again Inv-loop μ-loop
-loop-again c = let t = c .before .before .before .before .before .before in laying-next (t .before .loop .inv) (t .loop-test .taken) _ refl (c .before .before .lay-context .ensures)
+loop-again c =
+    let t = c .before .before .before .before .before .before in
+    laying-next (t .before .loop .inv) (t .loop-test .taken) _ refl (c .before .before .lay-context .ensures)
 
 same-length : tie.Need-same-length Inv-loop μ-loop
 same-length c = c .before .loop .inv .long ∙ length-set (c .before .before .before .before .before .args .work .now) 257 _

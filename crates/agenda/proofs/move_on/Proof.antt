@@ -26,7 +26,7 @@ few : (s : tie.Start Inv-loop μ-loop) → s .args .c .0 + 1 ≤ 256
 few s = omega (arith, s .pre .1 .0 .0, s .pre .1 .0 .1)
 
 slice-write-work-2 : tie.Need-slice-write-work-2 Inv-loop μ-loop
-slice-write-work-2 c = let s = entry c in leaf-room (s .pre .0) (s .args .c .0 + 1) _ (few s)
+slice-write-work-2 c = let s = entry c in leaf-room (s .pre .0) _ _ (few s)
 
 contender-of-requires : tie.Need-contender-of-requires Inv-loop μ-loop
 contender-of-requires c κs =
@@ -40,7 +40,7 @@ loop-holds c =
     let l = c .before .before in
     let s = entry l in
     let tree = subtree _ (s .pre .1 .0 .1) in
-    ascending-start tree (s .pre .0) (s .args .c .0 + 1) (omega arith) (few s) _ (l .leaf-word .ensures) (c .contender-of .ensures) (omega (arith, s .pre .1 .0 .0))
+    ascending-start tree (s .pre .0) _ (omega arith) (few s) _ (l .leaf-word .ensures) (c .contender-of .ensures) (omega (arith, s .pre .1 .0 .0))
 
 play-on-requires : tie.Need-play-on-requires Inv-loop μ-loop
 play-on-requires c κs =
@@ -58,15 +58,17 @@ same-length : tie.Need-same-length Inv-loop μ-loop
 same-length c =
     let l = leaf (c .before) in
     let s = entry l in
-    c .before .loop .inv .climbing .framed .long ∙ lessened-long (subtree _ (s .pre .1 .0 .1)) (s .pre .0) (s .args .c .0 + 1) (omega arith) (few s) _ (l .leaf-word .ensures)
+    let tree = subtree _ (s .pre .1 .0 .1) in
+    c .before .loop .inv .climbing .framed .long ∙ lessened-long tree (s .pre .0) (s .args .c .0 + 1) (omega arith) (few s) _ (l .leaf-word .ensures)
 
 returns : tie.Need-returns Inv-loop μ-loop
 returns c =
     let l = leaf (c .before) in
     let s = entry l in
     let w = c .before .loop .inv .climbing in
+    let e = l .before .before .before .top .ensures in
     let tree = subtree _ (s .pre .1 .0 .1) in
-    climbing-end tree (s .pre .0) (s .args .c .0 + 1) (omega arith) (few s) _ (l .leaf-word .ensures) w (omega (arith, c .loop-test .left, l .before .before .before .top .ensures, w .low)) refl
+    climbing-end tree (s .pre .0) _ (omega arith) (few s) _ (l .leaf-word .ensures) w (omega (arith, c .loop-test .left, e, w .low)) refl
 
 pub move-on-spec : {M : Type 1} → statement M
 move-on-spec =

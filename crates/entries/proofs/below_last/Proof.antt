@@ -8,7 +8,10 @@ returns : tie.Need-returns
 returns c = search not-full
 
 returns-2 : tie.Need-returns-2
-returns-2 c = let s = c .before .before .before .before .before in below-told (s .args .list .now) (s .args .found) (s .args .k) (s .args .ceiling) (s .pre .0 .0) (c .before .before .before .if1 .left) (c .before .before .entry-at .ensures) (c .before .similarity .ensures) (c .below .ensures)
+returns-2 c =
+    let e = c .before .before in
+    let u = e .before .before .before .pre in
+    below-told _ _ _ _ (u .0 .0) (e .before .if1 .left) (e .entry-at .ensures) (c .before .similarity .ensures) (c .below .ensures)
 
 pub below-last-spec : {M : Type 1} → statement M
 below-last-spec =

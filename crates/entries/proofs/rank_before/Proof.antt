@@ -12,14 +12,17 @@ returns-2 c =
     let d = c .before in
     let o = d .before in
     let b = o .before in
-    rank-after _ _ (b .before .before .similarity .ensures) (b .before .similarity2 .ensures) (b .below .ensures) (d .below2 .ensures) (o .if1 .left) (c .if2 .taken)
+    let y = b .before in
+    rank-after _ _ (y .before .similarity .ensures) (y .similarity2 .ensures) (b .below .ensures) (d .below2 .ensures) (o .if1 .left) (c .if2 .taken)
 
 returns-3 : tie.Need-returns-3
 returns-3 c =
     let d = c .before .before in
     let o = d .before in
     let b = o .before in
-    rank-tied _ _ (b .before .before .similarity .ensures) (b .before .similarity2 .ensures) (b .below .ensures) (d .below2 .ensures) (o .if1 .left) (c .before .if2 .left) (c .numbers-before .ensures)
+    let y = b .before in
+    let e = b .below .ensures in
+    rank-tied _ _ (y .before .similarity .ensures) (y .similarity2 .ensures) e (d .below2 .ensures) (o .if1 .left) (c .before .if2 .left) (c .numbers-before .ensures)
 
 pub rank-before-spec : {M : Type 1} → statement M
 rank-before-spec =

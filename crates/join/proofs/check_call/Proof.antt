@@ -4,10 +4,6 @@ use Rattle.join.specs.Join.{callCheck}
 use borrow.Author.Needs.{needs}
 use Rattle.join.proofs.check_call.Statement.{statement}
 use Rattle.join.proofs.check_call.Tie as tie
-use Rattle.join.proofs.check_call.Reads as reads
-use Rattle.join.proofs.check_call.Lts as lts
-use Rattle.join.proofs.check_rooms.Reads as check-rooms-reads
-use Rattle.tables.proofs.check_tables.Reads as check-tables-reads
 
 check-tables-requires : tie.Need-check-tables-requires
 check-tables-requires c κs = search needs

@@ -4,8 +4,6 @@ use Rattle.join.specs.Join.{roomsCheck}
 use borrow.Author.Needs.{needs}
 use Rattle.join.proofs.check_rooms.Statement.{statement}
 use Rattle.join.proofs.check_rooms.Tie as tie
-use Rattle.join.proofs.check_rooms.Reads as reads
-use Rattle.join.proofs.check_rooms.Lts as lts
 
 mul-if1 : tie.Need-mul-if1
 mul-if1 c = search needs

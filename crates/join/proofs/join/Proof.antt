@@ -9,8 +9,7 @@ use Rattle.join.proofs.join.Tie as tie
 returns : tie.Need-returns
 returns c =
     let k = c .before .before .before in
-    let a = k .before .before .before .before .before .before .args in
-    join-refused (a .k) (a .offsets .now) (a .codes .now) (a .list .now) (a .work .now) (a .trail .now) (k .check-call .ensures) (c .before .checked .given .1)
+    join-refused _ _ _ _ _ _ (k .check-call .ensures) (c .before .checked .given .1)
 
 search-requires : tie.Need-search-requires
 search-requires c κs =
@@ -23,8 +22,7 @@ returns-2 c =
     let f = c .before .before .before .before .before .before in
     let t = f .before .before .before .before in
     let k = t .before .before in
-    let a = k .before .before .before .before .before .before .args in
-    join-found (a .k) (a .offsets .now) (a .codes .now) (a .list .now) (a .work .now) (a .trail .now) (k .check-call .ensures) (t .enum-told .given .1) (f .search .ensures)
+    join-found _ _ _ _ _ _ (k .check-call .ensures) (t .enum-told .given .1) (f .search .ensures)
 
 pub join-spec : {M : Type 1} → statement M
 join-spec =

@@ -25,10 +25,14 @@ cast-t22 : tie.Need-cast-t22
 cast-t22 c = omega (arith, few c .met)
 
 returns : tie.Need-returns
-returns c = let j = join (c .before .before .before) in tables-stop _ _ _ _ _ _ (entry j .pre) (search needs) (search needs) (j .join .ensures) (c .before .r .given .1)
+returns c =
+    let j = join (c .before .before .before) in
+    tables-stop _ _ _ _ _ _ (entry j .pre) (search needs) (search needs) (j .join .ensures) (c .before .r .given .1)
 
 returns-2 : tie.Need-returns-2
-returns-2 c = let j = join (c .before .before .before) in tables-counts _ _ _ _ _ _ (entry j .pre) (search needs) (search needs) (j .join .ensures) (c .before .r2 .given .1)
+returns-2 c =
+    let j = join (c .before .before .before) in
+    tables-counts _ _ _ _ _ _ (entry j .pre) (search needs) (search needs) (j .join .ensures) (c .before .r2 .given .1)
 
 pub join-tables-spec : {M : Type 1} → statement M
 join-tables-spec =

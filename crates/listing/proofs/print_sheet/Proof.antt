@@ -6,16 +6,16 @@ use Rattle.listing.proofs.print_sheet.Statement.{statement}
 use Rattle.listing.proofs.print_sheet.Tie as tie
 
 cast-write-refusal : tie.Need-cast-write-refusal
-cast-write-refusal c = omega (arith, refusal-fits (c .before .before .before .before .list-sheet .ensures) (search needs) (c .before .before .r2 .given .1) .place)
+cast-write-refusal c = let q = c .before .before in omega (arith, refusal-fits (q .before .before .list-sheet .ensures) (search needs) (q .r2 .given .1) .place)
 
 write-refusal-requires : tie.Need-write-refusal-requires
-write-refusal-requires c κs = refusal-zero (c .before .before .before .before .list-sheet .ensures) (search needs) (c .before .before .r2 .given .1)
+write-refusal-requires c κs = let q = c .before .before in refusal-zero (q .before .before .list-sheet .ensures) (search needs) (q .r2 .given .1)
 
 returns : tie.Need-returns
 returns c = prints-listing (c .before .before .before .list-sheet .ensures) (search needs) (c .before .r .given .1)
 
 returns-2 : tie.Need-returns-2
-returns-2 c = prints-refusal (c .before .before .before .before .before .list-sheet .ensures) (search needs) (c .before .before .before .r2 .given .1) (c .write-refusal .ensures)
+returns-2 c = let q = c .before .before .before in prints-refusal (q .before .before .list-sheet .ensures) (search needs) (q .r2 .given .1) (c .write-refusal .ensures)
 
 pub print-sheet-spec : {M : Type 1} → statement M
 print-sheet-spec =

@@ -18,13 +18,17 @@ loop-holds : tie.Need-loop-holds Inv-loop μ-loop
 loop-holds c = search counting-start
 
 bit-of-requires : tie.Need-bit-of-requires Inv-loop μ-loop
-bit-of-requires c κs = let s = c .before .before .before .before .before in code-marked (s .args .ys .now) (s .args .marks .now) (s .pre .0 .0) (s .pre .0 .1) _ (c .before .loop-test .taken)
+bit-of-requires c κs =
+    let s = c .before .before .before .before .before in
+    code-marked (s .args .ys .now) (s .args .marks .now) (s .pre .0 .0) (s .pre .0 .1) _ (c .before .loop-test .taken)
 
 add-n : tie.Need-add-n Inv-loop μ-loop
-add-n c = let s = c .before .before .before .before .before .before in omega (arith, counting-few (c .before .before .before .loop .inv) _ (c .bit-of .ensures), s .pre .1 .0, c .before .before .loop-test .taken)
+add-n c =
+    let t = c .before .before in
+    omega (arith, counting-few (t .before .loop .inv) _ (c .bit-of .ensures), t .before .before .before .before .pre .1 .0, t .loop-test .taken)
 
 loop-again : tie.Need-loop-again Inv-loop μ-loop
-loop-again c = counting-next (c .before .before .before .loop .inv) (c .before .before .loop-test .taken) (c .bit-of .ensures)
+loop-again c = let t = c .before .before in counting-next (t .before .loop .inv) (t .loop-test .taken) (c .bit-of .ensures)
 
 returns : tie.Need-returns Inv-loop μ-loop
 returns c = search counting-end

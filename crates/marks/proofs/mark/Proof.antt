@@ -28,7 +28,9 @@ put-mark-requires c κs =
     code-marked (s .args .xs .now) (l .loop .marks) (l .loop .inv .long) (s .pre .1) _ (t .loop-test .taken)
 
 loop-again : tie.Need-loop-again Inv-loop μ-loop
-loop-again c = let t = c .before .before .before .before .before in marking-next (t .before .loop .inv) (t .loop-test .taken) (entry (t .before) .pre .1) (c .before .before .put-mark .ensures)
+loop-again c =
+    let t = c .before .before .before .before .before in
+    marking-next (t .before .loop .inv) (t .loop-test .taken) (entry (t .before) .pre .1) (c .before .before .put-mark .ensures)
 
 same-length : tie.Need-same-length Inv-loop μ-loop
 same-length c = c .before .loop .inv .long ∙ sym (entry (c .before) .pre .0)

@@ -16,7 +16,9 @@ loop-holds : tie.Need-loop-holds Inv-loop μ-loop
 loop-holds c = looking-start
 
 bit-of-requires : tie.Need-bit-of-requires Inv-loop μ-loop
-bit-of-requires c κs = let s = c .before .before .before .before .before in code-marked (s .args .ys .now) (s .args .marks .now) (s .pre .0 .0) (s .pre .0 .1) _ (c .before .loop-test .taken)
+bit-of-requires c κs =
+    let s = c .before .before .before .before .before in
+    code-marked (s .args .ys .now) (s .args .marks .now) (s .pre .0 .0) (s .pre .0 .1) _ (c .before .loop-test .taken)
 
 returns : tie.Need-returns Inv-loop μ-loop
 returns c =

@@ -23,7 +23,8 @@ bytes-at-requires-2 c κs =
     let n = c .before .before .before .before in
     let k = n .before .before .before .before in
     let s = entry k in
-    omega (arith, s .pre, k .bytes-at .ensures .end, k .bytes-at .kept .0, n .numbers-at .ensures .end, n .numbers-at .kept .0, line-length (s .args .key .now) (s .args .numbers .now))
+    let long = line-length (s .args .key .now) (s .args .numbers .now) in
+    omega (arith, s .pre, k .bytes-at .ensures .end, k .bytes-at .kept .0, n .numbers-at .ensures .end, n .numbers-at .kept .0, long)
 
 returns : tie.Need-returns
 returns c =

@@ -12,8 +12,7 @@ returns-2 : tie.Need-returns-2
 returns-2 c =
     let join = c .before .before .before .before .before .before .before .before .before .before in
     let entered = join .before .before .before .before in
-    let a = entered .before .before .before .before .before .before .before .args in
-    (refl, join-told (a .k) (a .offsets .now) (a .codes .now) (a .list .now) (a .work .now) (a .trail .now) (a .answer .now) (entered .if1 .left) _ (join .join .ensures) (c .before .before .put-join .ensures))
+    (refl, join-told _ _ _ _ _ _ _ (entered .if1 .left) _ (join .join .ensures) (c .before .before .put-join .ensures))
 
 pub probe-join-spec : {M : Type 1} → statement M
 probe-join-spec =

@@ -12,8 +12,7 @@ returns-2 : tie.Need-returns-2
 returns-2 c =
     let read = c .before .before .before .before .before .before .before .before in
     let entered = read .before .before .before in
-    let a = entered .before .before .before .before .before .args in
-    (refl, read-told (a .sheet .now) (a .offsets .now) (a .codes .now) (a .answer .now) (entered .if1 .left) (read .read .ensures) (c .before .before .put-read .ensures))
+    (refl, read-told _ _ _ _ (entered .if1 .left) (read .read .ensures) (c .before .before .put-read .ensures))
 
 pub probe-read-spec : {M : Type 1} → statement M
 probe-read-spec =

@@ -12,8 +12,7 @@ returns-2 : tie.Need-returns-2
 returns-2 c =
     let write = c .before .before .before .before .before .before in
     let entered = write .before .before in
-    let a = entered .before .before .before .before .before .args in
-    (refl, write-told (a .k) (a .offsets .now) (a .codes .now) (a .text .now) (a .answer .now) (entered .if1 .left) (write .write .ensures) (c .before .before .put-write .ensures))
+    (refl, write-told _ _ _ _ _ (entered .if1 .left) (write .write .ensures) (c .before .before .put-write .ensures))
 
 pub probe-write-spec : {M : Type 1} → statement M
 probe-write-spec =

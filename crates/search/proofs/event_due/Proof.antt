@@ -3,7 +3,6 @@ use Rattle.search.proofs.Due.{due-over, due-below, due-next}
 use Rattle.search.proofs.Gained.{after-proper}
 use Rattle.agenda.proofs.Coming.{coming}
 use Rattle.tables.proofs.Sound.{sound-rises}
-use Rattle.site.specs.Tables.{siteOf}
 use mathlib.Core.Path.{sym, _∙_}
 use borrow.Author.Tests.{not-true, not-false}
 use borrow.Author.Needs.{needs}
@@ -15,9 +14,7 @@ abbrev entry : tie.After-next → tie.Start
 entry next = next .before .before .before .before .before .before .before
 
 returns : tie.Need-returns
-returns c =
-    let a = c .before .before .before .before .before .before .before .args in
-    due-over (siteOf (a .offsets .now) (a .codes .now)) (a .k) (a .events) (c .before .before .next-at .ensures) (c .enum-told .given .1)
+returns c = due-over _ _ _ (c .before .before .next-at .ensures) (c .enum-told .given .1)
 
 stops-requires : tie.Need-stops-requires
 stops-requires c κs =
@@ -28,23 +25,19 @@ stops-requires c κs =
 returns-2 : tie.Need-returns-2
 returns-2 c =
     let n = c .before .before .before in
-    let s = entry n in
-    let a = s .args in
-    let site = siteOf (a .offsets .now) (a .codes .now) in
+    let u = entry n .pre in
     let m = coming _ _ (sym (n .before .before .next-at .ensures) ∙ n .next .given .1) in
-    let told = c .before .stops .ensures _ (after-proper site (sound-rises (s .pre .0)) (a .events)) (s .pre .1 .1 .1 .1) in
-    due-below site (a .k) (a .events) m (not-true _ (sym told ∙ c .if1 .taken))
+    let told = c .before .stops .ensures _ (after-proper _ (sound-rises (u .0)) _) (u .1 .1 .1 .1) in
+    due-below _ _ _ m (not-true _ (sym told ∙ c .if1 .taken))
 
 returns-3 : tie.Need-returns-3
 returns-3 c =
     let n = c .before .before .before in
-    let s = entry n in
-    let a = s .args in
-    let site = siteOf (a .offsets .now) (a .codes .now) in
+    let u = entry n .pre in
     let e = n .before .before .next-at .ensures in
     let is = n .next .given .1 in
-    let told = c .before .stops .ensures _ (after-proper site (sound-rises (s .pre .0)) (a .events)) (s .pre .1 .1 .1 .1) in
-    sym is ∙ due-next site (a .k) (a .events) (coming _ _ (sym e ∙ is)) (not-false _ (sym told ∙ c .if1 .left)) e
+    let told = c .before .stops .ensures _ (after-proper _ (sound-rises (u .0)) _) (u .1 .1 .1 .1) in
+    sym is ∙ due-next _ _ _ (coming _ _ (sym e ∙ is)) (not-false _ (sym told ∙ c .if1 .left)) e
 
 pub event-due-spec : {M : Type 1} → statement M
 event-due-spec =

@@ -27,7 +27,7 @@ returns-2 c =
     let s = n .before .before .before .before .before in
     let w = s .args .work .now in
     let r = c .is-marked .ensures ∙ ap (λ (n : ℕ). isMarked (pairsPart w) n) (n .pair-number .ensures) in
-    λ t. seen-told (s .pre .0) (s .args .c) (s .args .d) (s .pre .1 .0 .0) (s .pre .1 .0 .1) (n .before .if1 .left) w (sym r ∙ t)
+    λ t. seen-told (s .pre .0) _ _ (s .pre .1 .0 .0) (s .pre .1 .0 .1) (n .before .if1 .left) w (sym r ∙ t)
 
 pub met-before-spec : {M : Type 1} → statement M
 met-before-spec =

@@ -1,7 +1,6 @@
 -- `search::run` meets its contract: the loop over the events keeps `Searching`, and ends where none is due or the trail is full.
 use Rattle.search.proofs.Searching.{Searching, searching-start, searching-next, searching-full, searching-end, more-left}
 use Rattle.search.proofs.Due.{due-at}
-use Rattle.site.specs.Tables.{siteOf}
 use native.Mathlib.Omega.{arith}
 use lib.ListN.{length}
 use Prim.Native.Nat.{_-_}
@@ -56,9 +55,8 @@ do-event-requires c κs =
     let n = c .before .before .before .before in
     let w = turn n .events .inv in
     let l = laid (turn n) in
-    let s = entry l in
-    let u = s .pre in
-    let due = due-at (siteOf (s .args .offsets .now) (s .args .codes .now)) (s .args .k) _ (sym (n .before .before .event-due .ensures) ∙ n .next .given .1) .0 in
+    let u = entry l .pre in
+    let due = due-at _ _ _ (sym (n .before .before .event-due .ensures) ∙ n .next .given .1) .0 in
     let room = u .1 .1 .0 in
     (u .0, ((omega (arith, w .work-long, l .lay-work .kept .1 .1 .0, room .1), w .agenda), (due, ((u .1 .0 .1, omega (arith, w .list-long, room .0)), w .after))))
 
@@ -97,8 +95,9 @@ events-again c =
     let d = done (c .before) in
     let n = next d in
     let due = sym (n .before .before .event-due .ensures) ∙ n .next .given .1 in
+    let e = d .do-event .ensures in
     let long = d .do-event .kept .1 .1 .1 in
-    searching-next (entry (laid (turn n)) .pre .0) (turn n .events .inv) due (d .do-event .ensures .0) (c .if1 .left) (d .do-event .ensures .1) (long .0) (long .1 .0) (long .1 .1 .0)
+    searching-next (entry (laid (turn n)) .pre .0) (turn n .events .inv) due (e .0) (c .if1 .left) (e .1) (long .0) (long .1 .0) (long .1 .1 .0)
 
 same-length-4 : tie.Need-same-length-4 Inv-events μ-events
 same-length-4 c = last c .events .inv .list-long

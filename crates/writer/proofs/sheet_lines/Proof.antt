@@ -25,7 +25,10 @@ returns-2 c =
     contexts-full _ (s .pre) (at-front (s .args .text .now)) (lines t .two-lines .ensures) (t .if1 .left) (c .if2 .taken)
 
 context-lines-requires : tie.Need-context-lines-requires
-context-lines-requires c κs = let w = lines (c .before .before .before .before .before) in let s = entry w in (both-fit (w .two-lines .ensures) (at-front (s .args .text .now)), s .pre)
+context-lines-requires c κs =
+    let w = lines (c .before .before .before .before .before) in
+    let s = entry w in
+    (both-fit (w .two-lines .ensures) (at-front (s .args .text .now)), s .pre)
 
 returns-3 : tie.Need-returns-3
 returns-3 c =

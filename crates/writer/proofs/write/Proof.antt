@@ -9,8 +9,7 @@ use Rattle.writer.proofs.write.Tie as tie
 returns : tie.Need-returns
 returns c =
     let t = c .before .before .before in
-    let a = t .before .before .before .before .args in
-    write-refused (a .k) (a .offsets .now) (a .codes .now) (a .text .now) (t .check-tables .ensures) (c .before .c .given .1)
+    write-refused _ _ _ _ (t .check-tables .ensures) (c .before .c .given .1)
 
 sheet-lines-requires : tie.Need-sheet-lines-requires
 sheet-lines-requires c κs = accepted _ _ _ (sym (c .before .before .before .check-tables .ensures) ∙ c .before .enum-told .given .1) .sound
@@ -20,8 +19,9 @@ returns-2 c =
     let full = c .before .before .before .before in
     let s = full .before .before .before .before in
     let t = s .before .before .before .before in
-    let a = t .before .before .before .before .args in
-    write-full (a .k) (a .offsets .now) (a .codes .now) (a .text .now) (t .check-tables .ensures) (s .before .before .enum-told .given .1) (s .sheet-lines .ensures) (full .enum-told2 .given .1) (c .before .before .zero-bytes .ensures)
+    let fine = s .before .before .enum-told .given .1 in
+    let put = s .sheet-lines .ensures in
+    write-full _ _ _ _ (t .check-tables .ensures) fine put (full .enum-told2 .given .1) (c .before .before .zero-bytes .ensures)
 
 zero-bytes-requires-2 : tie.Need-zero-bytes-requires-2
 zero-bytes-requires-2 c κs = let on = c .before .before in written-fits (on .before .before .before .before .sheet-lines .ensures) (on .r .given .1)
@@ -31,8 +31,9 @@ returns-3 c =
     let on = c .before .before .before .before .before in
     let s = on .before .before .before .before in
     let t = s .before .before .before .before in
-    let a = t .before .before .before .before .args in
-    write-done (a .k) (a .offsets .now) (a .codes .now) (a .text .now) (t .check-tables .ensures) (s .before .before .enum-told .given .1) (s .sheet-lines .ensures) (on .r .given .1) (c .before .before .zero-bytes2 .ensures)
+    let fine = s .before .before .enum-told .given .1 in
+    let put = s .sheet-lines .ensures in
+    write-done _ _ _ _ (t .check-tables .ensures) fine put (on .r .given .1) (c .before .before .zero-bytes2 .ensures)
 
 pub write-spec : {M : Type 1} → statement M
 write-spec =
