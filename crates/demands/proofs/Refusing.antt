@@ -11,13 +11,11 @@ use Rattle.sheet.specs.Reading.{Sheet}
 use Rattle.sheet.proofs.Accepted.{accepts}
 use Rattle.sheet.proofs.Meanings.{refusal-means, meaning-refused}
 use Rattle.search.specs.Outcome.{zeros}
-use Rattle.reader.specs.declared.Reading.{Reading}
 use Rattle.reader.specs.Answers.{ReadingTells, sheetValues, readingAt, offsetsBy, codesBy}
 use Rattle.reader.specs.Calls.{Reads}
-use Rattle.writer.specs.declared.Writing.{Writing}
 use Rattle.writer.specs.Calls.{Writes}
 use Rattle.writer.proofs.Answers.{refused-told, told-refused, refused-cause, cause-refused, none-written, refused-unchanged, refused-emptied}
-use Rattle.demands.specs.Sheets.{ReadRefuses, WriteRefuses}
+use Rattle.demands.specs.Sheets.{ReadCall, ReadRefuses, WriteCall, WriteRefuses}
 
 -- no words and zeros behind them are zeros
 pub none-zeros : (old : List ℕ) → padded (length old) [] ≡ zeros old
@@ -29,30 +27,30 @@ one-value : (x : Read Sheet) {p : ℕ} → readValues sheetValues x ≡ p ∷ []
 one-value (value s) e = absurd (omega (arith, ap length e))
 one-value (refused n q) {p} e = let z : q ≡ p = cc e in (n, ap (refused n) z)
 
-module _ {sheet offsets codes : List ℕ} {r : Reading} {o c : List ℕ} (R : Reads sheet offsets codes r o c) where
+module _ {r : ReadCall} (R : Reads (r .sheet) (r .offsets) (r .codes) (r .answer) (r .offsets′) (r .codes′)) where
   -- what is told as a refusal is refused
-  told-refusal : {n p : ℕ} → ReadingTells r n (p ∷ []) → readingAt offsets codes sheet ≡ refused n p
+  told-refusal : {n p : ℕ} → ReadingTells (r .answer) n (p ∷ []) → readingAt (r .offsets) (r .codes) (r .sheet) ≡ refused n p
   told-refusal {n} {p} t =
-      let v = one-value (readingAt offsets codes sheet) (sym (R .told .1) ∙ t .1) in
+      let v = one-value (readingAt (r .offsets) (r .codes) (r .sheet)) (sym (R .told .1) ∙ t .1) in
       let m : n ≡ v .0 = sym (t .0) ∙ rw (v .1) at (R .told .0) in
       v .1 ∙ ap (λ (a : ℕ). refused a p) (sym m)
 
-  pub read-refuses : ReadRefuses sheet offsets codes r o c
+  pub read-refuses : ReadRefuses r
   unfolding offsetsBy codesBy
-  read-refuses = record {
-    exactly = λ n p. (
-      λ t. refusal-means (length offsets) (length codes) sheet (told-refusal t),
-      λ m. rw (meaning-refused (length offsets) (length codes) sheet m) at (R .told),
-    );
-    accepted = λ k site e f. rw (accepts (length offsets) (length codes) sheet k site e f) at (R .told);
-    emptied = λ n p t. (R .offsets-are ∙ rw (told-refusal t) (none-zeros offsets), R .codes-are ∙ rw (told-refusal t) (none-zeros codes));
-  }
+  read-refuses =
+      let lo = length (r .offsets) in
+      let lc = length (r .codes) in
+      record {
+        exactly = λ n p. (λ t. refusal-means lo lc (r .sheet) (told-refusal t), λ m. rw (meaning-refused lo lc (r .sheet) m) at (R .told));
+        accepted = λ k site e f. rw (accepts lo lc (r .sheet) k site e f) at (R .told);
+        emptied = λ n p t. (R .offsets-are ∙ rw (told-refusal t) (none-zeros (r .offsets)), R .codes-are ∙ rw (told-refusal t) (none-zeros (r .codes)));
+      }
 
-module _ {k : ℕ} {offsets codes text : List ℕ} {r : Writing} {t : List ℕ} (W : Writes k offsets codes text r t) where
-  pub write-refuses : WriteRefuses k offsets codes text r t
+module _ {w : WriteCall} (W : Writes (w .k) (w .offsets) (w .codes) (w .text) (w .answer) (w .text′)) where
+  pub write-refuses : WriteRefuses w
   write-refuses = record {
-    exactly = λ n p h. (λ e. refused-cause W (told-refused r h e), λ c. refused-told (cause-refused W c));
+    exactly = λ n p h. (λ e. refused-cause W (told-refused (w .answer) h e), λ c. refused-told (cause-refused W c));
     accepted = none-written W;
-    unchanged = λ n p h not-12 e. refused-unchanged W (told-refused r h e) not-12;
-    emptied = λ p e. refused-emptied W (told-refused r (omega arith) e) ∙ none-zeros text;
+    unchanged = λ n p h not-12 e. refused-unchanged W (told-refused (w .answer) h e) not-12;
+    emptied = λ p e. refused-emptied W (told-refused (w .answer) (omega arith) e) ∙ none-zeros (w .text);
   }

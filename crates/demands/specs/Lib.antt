@@ -1,2 +1,2 @@
--- what the reader and the writer owe: their refusals
+-- what the reader and the writer owe
 pub mod Sheets
