@@ -75,7 +75,8 @@ pub record WriteRefuses (w : WriteCall) : Type 0 where
 -- text has room: given to `write` are k and the words that were counted.
 abbrev pub SheetBack : ReadCall → WriteCall → Type 0
 SheetBack r w =
-    (n m : ℕ) → ReadingTells (r .answer) 0 (w .k ∷ n ∷ m ∷ []) → take (n + 1) (r .offsets′) ≡ w .offsets → take m (r .codes′) ≡ w .codes
+    (n m : ℕ) → ReadingTells (r .answer) 0 (w .k ∷ n ∷ m ∷ [])
+    → take (n + 1) (r .offsets′) ≡ w .offsets → take m (r .codes′) ≡ w .codes
     → Unbroken (w .k) (w .offsets) (w .codes) → length (r .sheet) ≤ length (w .text)
     → WritingTells (w .answer) 0 (length (r .sheet) ∷ []) × (w .text′ ≡ padded (length (w .text)) (r .sheet))
 

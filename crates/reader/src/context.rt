@@ -89,7 +89,8 @@ fn context_line_from(sheet: &[u8], at: usize, codes: &mut [u16], used: usize) ->
     requires { ⌜ at ≤ length (now sheet) ⌝ }
     requires { ⌜ used ≤ min 4096 (length (now codes)) ⌝ }
     ensures { λ r. ⌜ r ≡ lineBy (codesAfter used) (contextLine (wordsLent codes) used at (now (sheet .entry))) ⌝ }
-    ensures { λ _. ⌜ Stored (contextIn (wordsLent codes) used at (lineAt at (now (sheet .entry)))) used (now (codes .entry)) (now (codes .exit)) ⌝ }
+    ensures { λ _. ⌜ Stored (contextIn (wordsLent codes) used at (lineAt at (now (sheet .entry)))) used
+        (now (codes .entry)) (now (codes .exit)) ⌝ }
 {
     let l = line_from(sheet, at);
     let r = context_in(l, at, codes, used);

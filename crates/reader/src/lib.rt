@@ -42,7 +42,8 @@ fn whole(k: u16, contexts: u16, last: Part) -> Reading
 // Reads the rest of the sheet, behind its `k=` line from `at` on, into the front of the tables.
 fn read_rest(sheet: &[u8], at: usize, k: u16, offsets: &mut [u16], codes: &mut [u16]) -> Reading
     requires { ⌜ at ≤ length (now sheet) ⌝ }
-    ensures { λ r. ⌜ Taken (readRest (wordsLent offsets) (wordsLent codes) k at (now (sheet .entry))) (now (offsets .exit)) (now (codes .exit)) r ⌝ }
+    ensures { λ r. ⌜ Taken (readRest (wordsLent offsets) (wordsLent codes) k at (now (sheet .entry)))
+        (now (offsets .exit)) (now (codes .exit)) r ⌝ }
 {
     let line = line::number_line_from(sheet, at, b"contexts=", words::smaller(257, offsets.len()));
     let Part::Read { value: n, next } = line else {

@@ -134,9 +134,11 @@ pub record After (site : Site) (k : ℕ) (pairs : List Pair) (list work buffer :
   pub seen : Seen site pairs work
 
 -- more pairs are met, whatever the buffers hold
-abbrev pub Meets : Site → ℕ → List Pair → List ℕ → List ℕ → List ℕ → Counts → List ℕ → List ℕ → List ℕ → Counts → Type 0
+abbrev pub Meets : Site → ℕ → List Pair → List ℕ → List ℕ → List ℕ → Counts
+    → List ℕ → List ℕ → List ℕ → Counts → Type 0
 Meets site k more list work buffer n list′ work′ buffer′ n′ =
-    (pairs : List Pair) → Proper site (pairs ++ more) → After site k pairs list work buffer n → After site k (pairs ++ more) list′ work′ buffer′ n′
+    (pairs : List Pair) → Proper site (pairs ++ more) → After site k pairs list work buffer n
+    → After site k (pairs ++ more) list′ work′ buffer′ n′
 
 -- so many events are done
 abbrev pub AfterEvents : Site → ℕ → ℕ → List ℕ → List ℕ → List ℕ → Counts → Type 0

@@ -439,7 +439,8 @@ fn stops(
     requires { ⌜ Sound (now offsets) (now codes) × Occurs (siteIn offsets codes) (eventIs c p) ⌝ }
     requires { ⌜ (0 < k) × (k ≤ 64) ⌝ }
     requires { ⌜ width * k ≤ length (now list) ⌝ }
-    ensures { λ r. ⌜ ((pairs : List Pair) → Proper (siteAt offsets codes) pairs → Listed (siteAt offsets codes) k pairs (now (list .entry)) found
+    ensures { λ r. ⌜ ((pairs : List Pair) → Proper (siteAt offsets codes) pairs
+        → Listed (siteAt offsets codes) k pairs (now (list .entry)) found
         → r ≡ not (reaches (cutOf inUse (siteAt offsets codes) k pairs) (ceilingAt inUse (siteAt offsets codes) (eventIs c p)))) ⌝ }
 {
     let part = context(offsets, codes, c);

@@ -62,7 +62,8 @@ abbrev pub InRange : ℕ → ℕ → Which → Type 0
 InRange offsets codes of-k = Unit {0}
 InRange offsets codes (of-contexts k) = k ≤ 65535
 InRange offsets codes (of-code k n site cs) =
-    (k ≤ 65535) × (n < min 257 offsets) × (length site < n) × SiteWords site × Words16 cs × (length (allCodes site) + length cs ≤ min 4096 codes)
+    (k ≤ 65535) × (n < min 257 offsets) × (length site < n) × SiteWords site × Words16 cs
+    × (length (allCodes site) + length cs ≤ min 4096 codes)
 
 -- at p stands the first digit of the number x of s; its digits, all from there that can stand in a number, say v
 pub record NumberAt (offsets codes : ℕ) (x : Which) (s : List ℕ) (p v : ℕ) : Type 0 where

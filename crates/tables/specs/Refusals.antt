@@ -19,7 +19,8 @@ WrongSizes offsets codes = (offsets ≡ 0) ⊎ ((257 < offsets) ⊎ (4096 < code
 -- 3: the first offset is not 0, an offset is below the one before, or the last is not the codes length
 abbrev pub WrongOffset : List ℕ → ℕ → ℕ → Type 0
 WrongOffset os n i =
-    ((i ≡ 0) × (getD os i 0 ≡ 0 → ⊥)) ⊎ (((0 < i) × (getD os i 0 < getD os (i - 1) 0)) ⊎ ((i + 1 ≡ length os) × (getD os i 0 ≡ n → ⊥)))
+    ((i ≡ 0) × (getD os i 0 ≡ 0 → ⊥))
+    ⊎ (((0 < i) × (getD os i 0 < getD os (i - 1) 0)) ⊎ ((i + 1 ≡ length os) × (getD os i 0 ≡ n → ⊥)))
 
 -- 5: the code at i is not above the one before it, and context c owns both
 pub record NotAbove (os cs : List ℕ) (i c : ℕ) : Type 0 where
