@@ -1,33 +1,63 @@
-# Sazamkhri. `make list SHEET=examples/three.sheet` lists a sheet, `make test` is the whole gate, `make bench` measures.
+# Sazamkhri. `make` alone says what can be made; the lines that begin with `#:` are what it prints.
 SHELL := /bin/bash
-SHEET ?= examples/three.sheet
-LIBS := target/staticlib
-# Proof progress goes to standard error, so that a listing can be piped on.
-PROVE := rt check sazamkhri 1>&2
-
-.PHONY: list test bench program libraries host
+.DEFAULT_GOAL := help
 .SILENT:
+.PHONY: help list program host install uninstall test trials bench libraries clean
 
-# Proves the program and all it stands on, builds it, and lists the sheet.
-list: program
-	target/bin/sazamkhri < "$(SHEET)"
+# A file's name is taken as it is typed, also with spaces, quotes and `$`.
+override SHEET := $(value SHEET)
+override PREFIX := $(or $(value PREFIX),/usr/local)
+override DESTDIR := $(value DESTDIR)
+export SHEET PREFIX DESTDIR
+N ?= 100000
+SEED ?= 1
+KIND ?= all
 
+BUILD := scripts/build.py
+LIBS := $(CURDIR)/target/staticlib
+
+#: make list SHEET=FILE       list a sheet: the most alike pairs, or in words why it is refused
+list:
+	[ -n "$$SHEET" ] || { echo "Which sheet? For example: make list SHEET=examples/three.sheet" >&2; exit 2; }
+	$(BUILD) program
+	scripts/list.py -- "$$SHEET"
+
+#: make program               prove and build the program: target/bin/sazamkhri < FILE
 program:
-	$(PROVE)
+	$(BUILD) program
 
-# The gate.
+#: make host                  prove and build the library for C and an example: target/host/list_sheet FILE
+host:
+	$(BUILD) host
+	host/build.sh
+
+#: make install PREFIX=DIR    put header, library and pkg-config file for C there (also: make uninstall PREFIX=DIR)
+install: host
+	host/install.sh
+
+uninstall:
+	host/install.sh --remove
+
+#: make test                  the whole gate: every proof, every check; about 20 minutes
 test:
 	scripts/test.sh
 
-# The static libraries for C and Rust.
-libraries:
-	rt staticlib probe 1>&2
-	rt staticlib host 1>&2
+#: make trials N=.. SEED=..   that many random cases of each kind against an independent program
+trials: libraries program
+	scripts/trials.sh $(KIND) path="$(CURDIR)/target/bin/sazamkhri" n=$(N) seed=$(SEED) $(if $(TRIAL),trial=$(TRIAL))
 
-# The example program in C, over the host's library.
-host: libraries
-	host/build.sh
-
-# Ratios against plain Rust, in one run.
+#: make bench                 time it beside plain Rust
 bench: libraries
-	cd bench && CARGO_TARGET_DIR=../target/bench SAZAMKHRI_LIB="$(abspath $(LIBS))" cargo run --release --quiet --offline
+	cd bench && CARGO_TARGET_DIR=../target/bench SAZAMKHRI_LIB="$(LIBS)" cargo run --release --quiet --offline
+
+# The static libraries for C and for Rust.
+libraries:
+	$(BUILD) host probe
+
+#: make clean                 remove all that was built
+clean:
+	rm -rf target
+
+#: make help                  print this
+help:
+	sed -n 's/^#: //p' Makefile

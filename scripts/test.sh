@@ -1,44 +1,12 @@
 #!/usr/bin/env bash
 # The whole gate: the layout, the documents, every crate proved from nothing with its must-fail edits and programs,
-# then the programs in Rust and C against the libraries built from the proved crates.
-# Whatever fails, the rest still runs; the last line is the prover's count if all passed.
-set -u -o pipefail
-cd "$(dirname "$0")/.."
-log=$(mktemp)
-trap 'rm -f "$log"' EXIT
-failures=()
-
-# step NAME COMMAND..: runs a step, says how long it took, and remembers its failure.
-step() {
-    local name=$1 start=$SECONDS
-    shift
-    printf '\n== %s\n' "$name"
-    if "$@"; then
-        printf '== %s: passed (%d s)\n' "$name" $((SECONDS - start))
-    else
-        printf '== %s: FAILED (%d s)\n' "$name" $((SECONDS - start))
-        failures+=("$name")
-    fi
-}
-
-proofs() { rt ci 2>&1 | tee "$log"; }
-
-trials() {
-    (cd tests && CARGO_TARGET_DIR=../target/trials SAZAMKHRI_LIB="$PWD/../target/staticlib" cargo run --release --quiet --offline -- "$@")
-}
+# then the programs in Rust, C and Python against what was built from the proved crates.
+# Whatever fails, the rest still runs; the last line counts what passed and what failed. Logs: target/gate/.
+cd "$(dirname "$0")/.." || exit 1
+. scripts/steps.sh
 
 oracle() {
-    (cd tests && CARGO_TARGET_DIR=../target/trials SAZAMKHRI_LIB="$PWD/../target/staticlib" cargo test --release --quiet --offline --no-default-features)
-}
-
-# Each stored sheet gives its stored listing.
-examples() {
-    local sheet want
-    for sheet in examples/*.sheet examples/refused/*.sheet; do
-        want="${sheet%.sheet}.listing"
-        target/bin/sazamkhri < "$sheet" | cmp - "$want" || { echo "$sheet: another listing than $want"; return 1; }
-        echo "$sheet: as stored"
-    done
+    (cd tests && CARGO_TARGET_DIR=../target/trials cargo test --release --quiet --offline --no-default-features)
 }
 
 step "layout (rt fmt --check)" rt fmt --check
@@ -46,22 +14,22 @@ step "promises name what exists" python3 scripts/check-promises.py --finished
 step "public functions have contracts and one answer" python3 scripts/public-functions.py
 step "what is read fits the page" python3 scripts/check-page.py
 step "the reading list has all that the demands rest on" python3 scripts/check-reading.py
+step "figures and names agree wherever they are told" python3 scripts/check-figures.py
 step "the checks notice damage" python3 scripts/try-checks.py
-step "proofs, must-fail edits and programs (rt ci)" proofs
-step "static libraries" make --no-print-directory libraries
+step "proofs, must-fail edits and programs (rt ci)" rt ci
+step "program and libraries" scripts/build.py program host probe
 step "the independent program agrees with the paper's examples" oracle
-step "join against all pairs" trials join
-step "reader and writer against the independent ones" trials sheets
-step "listing and host call against the independent ones" trials host
-step "program against the independent listing" trials program "$PWD/target/bin/sazamkhri"
-step "stored sheets give stored listings" examples
-step "the lesson prints what it says" python3 scripts/check-lesson.py
+step "join against all pairs" scripts/trials.sh join
+step "the user's law: a second code for every type" scripts/trials.sh doubled
+step "reader and writer against the independent ones" scripts/trials.sh sheets
+step "listing and host call against the independent ones" scripts/trials.sh host
+step "program against the independent listing" scripts/trials.sh program "$PWD/target/bin/sazamkhri"
+step "stored sheets give stored listings" scripts/check-examples.sh target/bin/sazamkhri examples examples/refused
+step "the lesson and the catalogue's page print what they say" python3 scripts/check-lesson.py
 step "host program in C, plain and under the sanitizers" host/test.sh
+step "the host's checks notice mistakes" host/try.sh
+for test in tests/scripts/test_*.py; do
+    step "$test" python3 "$test"
+done
 
-printf '\n'
-if [ ${#failures[@]} -gt 0 ]; then
-    printf 'failed: %s\n' "${failures[@]}"
-    printf '0 passed, %d failed\n' ${#failures[@]}
-    exit 1
-fi
-grep -E '^[0-9]+ passed, 0 failed$' "$log" | tail -n 1
+tally target/gate

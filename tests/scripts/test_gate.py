@@ -1,0 +1,94 @@
+#!/usr/bin/env python3
+"""Tries the gate itself: it counts what passed and what failed, goes on behind a failure, and keeps its logs; and the
+check of the stored sheets notices what it should.
+"""
+import shutil
+import subprocess
+import tempfile
+import unittest
+from pathlib import Path
+
+ROOT = Path(__file__).resolve().parent.parent.parent
+
+
+class Steps(unittest.TestCase):
+    def setUp(self):
+        self.place = Path(tempfile.mkdtemp())
+        self.addCleanup(shutil.rmtree, self.place)
+
+    def gate(self, steps):
+        script = f". '{ROOT}/scripts/steps.sh'\n{steps}\ntally '{self.place}/logs'\n"
+        run = subprocess.run(["bash", "-c", script], capture_output=True, text=True)
+        return run.returncode, run.stdout.splitlines()[-1], run.stdout
+
+    def test_counts(self):
+        prover = "printf '119 passed, 0 failed\\n'"
+        refused = "sh -c 'echo 117 passed, 2 failed; exit 1'"
+        for steps, status, line in (
+            ("step a true; step b true", 0, "2 passed, 0 failed"),
+            ("step a true; step b false; step c true", 1, "2 passed, 1 failed"),
+            ("step a false", 1, "0 passed, 1 failed"),
+            (f"step a true; step proofs {prover}", 0, "120 passed, 0 failed"),
+            (f"step a true; step proofs {refused}; step c false", 1, "118 passed, 3 failed"),
+            ("step proofs sh -c 'echo 119 passed, 0 failed; exit 1'", 1, "119 passed, 1 failed"),
+            ("step a no-such-command", 1, "0 passed, 1 failed"),
+            ("step a sh -c 'kill -9 $$'", 1, "0 passed, 1 failed"),
+            ("", 1, "0 passed, 0 failed"),
+        ):
+            self.assertEqual(self.gate(steps)[:2], (status, line), steps)
+
+    def test_says_what_failed_and_goes_on(self):
+        _, _, said = self.gate("step 'first one' false; step second echo still here")
+        self.assertIn("== first one: FAILED", said)
+        self.assertIn("failed: first one", said)
+        self.assertIn("still here", said)
+
+    def test_keeps_a_log_of_each_step(self):
+        self.gate("step 'one (of two)' echo first; step two sh -c 'echo second >&2; false'")
+        logs = sorted((self.place / "logs").iterdir())
+        self.assertEqual([log.name for log in logs], ["01-one-of-two.log", "02-two.log"])
+        self.assertEqual([log.read_text() for log in logs], ["first\n", "second\n"])
+
+
+class Examples(unittest.TestCase):
+    def setUp(self):
+        self.place = Path(tempfile.mkdtemp())
+        self.addCleanup(shutil.rmtree, self.place)
+        shutil.copytree(ROOT / "examples", self.place / "examples")
+
+    def check(self, program=ROOT / "target/bin/sazamkhri"):
+        folders = [self.place / "examples", self.place / "examples/refused"]
+        return subprocess.run([ROOT / "scripts/check-examples.sh", program, *folders], capture_output=True).returncode
+
+    def stand_in(self, behind):
+        program = self.place / "program"
+        program.write_text(f"#!/bin/sh\n'{ROOT}/target/bin/sazamkhri'\n{behind}\n")
+        program.chmod(0o755)
+        return program
+
+    def test_as_stored(self):
+        self.assertEqual(self.check(), 0)
+
+    def test_each_listing_is_compared(self):
+        listings = sorted(self.place.rglob("*.listing"))
+        self.assertGreater(len(listings), 8)
+        for listing in listings:
+            text = listing.read_bytes()
+            listing.write_bytes(text[:-2] + b"7\n")
+            self.assertNotEqual(self.check(), 0, listing.name)
+            listing.write_bytes(text)
+
+    def test_a_listing_without_a_sheet_and_a_sheet_without_a_listing(self):
+        (self.place / "examples/three.sheet").rename(self.place / "examples/3.sheet")
+        self.assertNotEqual(self.check(), 0)
+        (self.place / "examples/three.listing").unlink()
+        self.assertNotEqual(self.check(), 0)
+
+    def test_a_program_that_dies_or_says_more(self):
+        for behind in ("exit 3", "kill -9 $$", "echo more"):
+            self.assertNotEqual(self.check(self.stand_in(behind)), 0, behind)
+        self.assertEqual(self.check(self.stand_in("exit 0")), 0)
+
+
+if __name__ == "__main__":
+    unittest.main()
