@@ -1,0 +1,141 @@
+#!/usr/bin/env python3
+"""Checks that what is told in more than one place is told alike: version, refusals, limits, ratios, and the names of
+files and commands.
+
+    scripts/check-figures.py [ROOT]
+
+Exits with 1 if two places differ, or if one of them is not found.
+"""
+import re
+import sys
+from pathlib import Path
+
+PAGES = ("README.md", "CONTRIBUTING.md", "CHANGELOG.md", "docs/*.md", "examples/refused/README.md", "tests/README.md")
+# What a page may name although it is made only later, or stands for any name.
+MADE = ("target/", "crates/NAME", "crates/*", "docs/landings", "examples/refused/NAME")
+
+
+class Text:
+    """A file's text; what is looked for must be there."""
+
+    def __init__(self, root, name):
+        self.name = name
+        self.text = (root / name).read_text(encoding="utf-8")
+
+    def find(self, pattern):
+        found = re.findall(pattern, self.text, re.M)
+        if not found:
+            raise ValueError(f"{self.name}: nothing matches {pattern}")
+        return found
+
+
+def number(text):
+    return int(text.replace(",", "").replace("_", ""))
+
+
+def differ(what, told):
+    """What is wrong if not all places tell the same: the places, each with what it tells."""
+    return [] if len(set(map(str, told.values()))) == 1 else [f"{what}: {told}"]
+
+
+def version(root):
+    header = Text(root, "host/sazamkhri.h")
+    parts = [header.find(rf"#define SAZAMKHRI_VERSION_{part} (\d+)$")[0] for part in ("MAJOR", "MINOR", "PATCH")]
+    return differ("version", {
+        "SAZAMKHRI_VERSION": header.find(r'#define SAZAMKHRI_VERSION "([^"]+)"')[0],
+        "its three parts": ".".join(parts),
+        "CHANGELOG.md": Text(root, "CHANGELOG.md").find(r"^## (\S+)")[0],
+    })
+
+
+def refusals(root):
+    """The numbers of the refusals, in every table of them."""
+    return differ("refusals", {
+        "README.md": [int(n) for n in Text(root, "README.md").find(r"^\| (\d+) \|")],
+        "host/sazamkhri.h": [int(n) for n in Text(root, "host/sazamkhri.h").find(r"^ *SAZAMKHRI_[A-Z_]+ = (\d+)\b")],
+        "scripts/list.py": sorted(int(n) for n in Text(root, "scripts/list.py").find(r"^    (\d+): \(")),
+    })
+
+
+def limits(root):
+    readme = Text(root, "README.md")
+    header = Text(root, "host/sazamkhri.h")
+    listing = Text(root, "crates/listing/src/lib.rt")
+    front = Text(root, "scripts/list.py")
+    wrong = differ("bytes of a sheet", {
+        "README.md": number(readme.find(r"^\| a sheet for the program or the host \| ([\d,]+) bytes")[0]),
+        "host/sazamkhri.h": number(header.find(r"#define SAZAMKHRI_SHEET_LIMIT (\d+)")[0]),
+        "crates/sazamkhri": number(Text(root, "crates/sazamkhri/src/main.rt").find(r"INPUT: usize = (\d+)")[0]) - 1,
+        "scripts/list.py": number(front.find(r"^LIMIT = ([\d_]+)")[0]),
+    })
+    wrong += differ("pairs on the trail", {
+        "README.md": number(readme.find(r"^\| trail of the program and the host \| ([\d,]+) pairs")[0]),
+        "crates/listing": number(listing.find(r"const TRAIL: usize = 2 \* (\d+)")[0]),
+    })
+    wrong += differ("words of the work area", {
+        "README.md": number(readme.find(r"^\| work area of the join \| ([\d,]+) words")[0]),
+        "crates/join": number(Text(root, "crates/join/src/lib.rt").find(r"const WORK: usize = (\d+)")[0]),
+        "docs/DECISIONS.md": number(Text(root, "docs/DECISIONS.md").find(r"of the ([\d,]+) words\. A context is told")[0]),
+    })
+    return wrong
+
+
+def ratios(root):
+    bench = Text(root, "docs/BENCHMARKS.md")
+    readme = Text(root, "README.md")
+    ranges = r"([\d.]+ to\s+[\d.]+)"
+    plain = lambda found: re.sub(r"\s+", " ", found[0])
+    wrong = differ("join / topk-join", {
+        "docs/BENCHMARKS.md": plain(bench.find(rf"plain topk-join the proved join takes {ranges} of the time")),
+        "README.md": plain(readme.find(rf"^About {ranges} times the time of a plain topk-join")),
+        "CHANGELOG.md": plain(Text(root, "CHANGELOG.md").find(rf"engine\.\*\* {ranges} times")),
+    })
+    wrong += differ("join / all-pairs", {
+        "docs/BENCHMARKS.md": plain(bench.find(rf"plain all-pairs it takes {ranges} of the time")),
+        "README.md": plain(readme.find(rf"and {ranges} times that of plain all-pairs")),
+    })
+    rows = bench.text.split("Host call:")[1].split("\n## ")[0]
+    said = bench.find(r"\*\*(\d+) of the (\d+) rows end in refusal 8")[0]
+    wrong += differ("host rows that end in 8", {
+        "said": tuple(map(int, said)),
+        "table": (rows.count("| refusal 8 |"), len(re.findall(r"^\| \d", rows, re.M))),
+    })
+    return wrong
+
+
+def names(root):
+    """Every file and every `make` target that a page names is there."""
+    targets = set(Text(root, "Makefile").find(r"^([a-z]+):"))
+    wrong = []
+    for page in sorted(p for pattern in PAGES for p in root.glob(pattern)):
+        text = page.read_text(encoding="utf-8")
+        told = page.relative_to(root)
+        for name in re.findall(r"(?:^|`)make ([a-z]+)\b", text, re.M):
+            if name not in targets:
+                wrong.append(f"{told}: there is no `make {name}`")
+        for path in re.findall(r"`((?:scripts|examples|docs|host|tests|bench|crates|\.ci)/[^\s`:]*)", text):
+            if not path.startswith(MADE) and not any((root / "crates").glob(path)) and not any(root.glob(path)):
+                wrong.append(f"{told}: there is no {path}")
+        for link in re.findall(r"\]\(([^)#\s]+)\)", text):
+            if "://" not in link and not (page.parent / link).exists():
+                wrong.append(f"{told}: a link to {link}, which is not there")
+    return wrong
+
+
+def main(arguments):
+    root = Path(arguments[0]) if arguments else Path(__file__).resolve().parent.parent
+    wrong = []
+    checks = (version, refusals, limits, ratios, names)
+    for check in checks:
+        try:
+            wrong += check(root)
+        except (OSError, ValueError) as fault:
+            wrong.append(f"{check.__name__}: {fault}")
+    for problem in wrong:
+        print(problem)
+    print(f"figures and names: {len(checks)} checks, {len(wrong)} problems")
+    return 1 if wrong else 0
+
+
+if __name__ == "__main__":
+    sys.exit(main(sys.argv[1:]))
