@@ -64,6 +64,7 @@ def check(page, text):
 
 
 def main(arguments):
+    sys.stdout.reconfigure(errors="backslashreplace")  # names in any script, on any terminal
     pages = arguments or [page for page in PAGES if page == PAGES[0] or page.exists()]
     wrong = 0
     for page in pages:

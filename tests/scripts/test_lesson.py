@@ -153,6 +153,7 @@ class ByShared(Case):
             "\xff\xfek\0=\0": ("line 1", "\\xff"),
             "k=5": ("line 2", "its end"),
             head.replace("k=5", "k=05") + two: ("line 1",),
+            head.replace("events=9", "events=100000") + two: ("line 3", "events= and a number"),
             head.replace("k=5", "k=1") + two: ("line 2", "at most k=1"),
             head: ("line 5", "found=2", "''"),
             head + "pair=0 1 2 3\n": ("line 6", "found=2"),
@@ -243,6 +244,7 @@ class Doubled(Case):
             top + "c=1 -2\nc=1\n": ("line 3, column 5", "'-'"),
             top + "c=1 2\nc=3 3\n": ("line 4, column 5", "code 3 stands behind 3"),
             top + "c=1 2\nc=4 3\n": ("line 4, column 5", "code 3 stands behind 4", "Sort"),
+            top + "c=1 2\nc=1 10000\n": ("line 4, column 5", "code 10000 cannot"),
             top + "c=1 2\nc=1 " + "7" * 5000 + "\n": ("line 4, column 5", "code 777777777... cannot"),
             "x" * 24577: ("more than 24,576 bytes",),
         }
@@ -562,7 +564,7 @@ class CheckLesson(Case):
 
     def checked(self, *pages):
         files = [self.file(f"page{number}.md", page) for number, page in enumerate(pages)]
-        done = run("check-lesson.py", *files)
+        done = run("check-lesson.py", *files, text="what nobody asked for\n")
         self.assertEqual(done.stderr, b"")
         return done.returncode, done.stdout.decode()
 
