@@ -14,6 +14,26 @@ from importlib.util import module_from_spec, spec_from_file_location
 from pathlib import Path
 
 HERE = Path(__file__).resolve().parent
+CHECKS = ("public-functions.py", "check-page.py", "check-promises.py", "check-reading.py", "check-figures.py")
+
+
+# Figures and names that are told twice: what is damaged, where, and how.
+FIGURES = (
+    ("another version in CHANGELOG", "CHANGELOG.md", "\n## ", "\n## 9.9.9\n\n## "),
+    ("a version whose parts differ", "host/sazamkhri.h", "VERSION_MINOR ", "VERSION_MINOR 9"),
+    ("a refusal that README does not tell", "README.md", "\n| 7 | ", "\n| seven | "),
+    ("a refusal that the header does not tell", "host/sazamkhri.h", " = 10,", " = 100,"),
+    ("a refusal that the front does not tell", "scripts/list.py", "\n    12: (", "\n    120: ("),
+    ("another length of a sheet in README", "README.md", "host | 24,576 bytes", "host | 24,577 bytes"),
+    ("another length of a sheet in the front", "scripts/list.py", "LIMIT = 24", "LIMIT = 25"),
+    ("another trail in README", "README.md", "host | 2,048 pairs", "host | 4,096 pairs"),
+    ("another work area in README", "README.md", "join | 10,240 words", "join | 10,241 words"),
+    ("another ratio in README", "README.md", "About 0.3 to", "About 0.2 to"),
+    ("another count of host rows that end in 8", "docs/BENCHMARKS.md", "**10 of the 18 rows", "**9 of the 18 rows"),
+    ("a script that is not there", "README.md", "`scripts/list.py", "`scripts/lists.py"),
+    ("a target that is not there", "CONTRIBUTING.md", "`make bench`", "`make benches`"),
+    ("a link that leads nowhere", "README.md", "](docs/LESSON.md)", "](docs/LESSONS.md)"),
+)
 
 
 def entry_points():
@@ -90,6 +110,14 @@ def damages():
         lambda t: t.replace("pub trail-met :", "{- pub trail-met :", 1) + "-}\n",
     )
     yield (
+        "a file that the demands rest on and the reading list has not",
+        "check-reading.py",
+        "README.md",
+        lambda t: t.replace("`crates/host/specs/Call.antt`", "the host's", 1),
+    )
+    for what, where, old, new in FIGURES:
+        yield what, "check-figures.py", where, lambda t, old=old, new=new: t.replace(old, new, 1)
+    yield (
         "a long line in a definition",
         "check-page.py",
         "crates/site/specs/Site.antt",
@@ -108,9 +136,11 @@ def main(arguments):
     wrong = tried = 0
     with tempfile.TemporaryDirectory() as place:
         copy = Path(place)
-        for part in ("crates", "docs", "tests", "scripts", "examples"):
+        for part in ("crates", "docs", "tests", "scripts", "examples", "host"):
             shutil.copytree(root / part, copy / part, ignore=shutil.ignore_patterns("target"))
-        for check in ("public-functions.py", "check-page.py", "check-promises.py"):
+        for page in ("README.md", "CONTRIBUTING.md", "CHANGELOG.md", "Makefile"):
+            shutil.copy(root / page, copy / page)
+        for check in CHECKS:
             if refused(check, copy):
                 print(f"{check} refuses the copy as it is")
                 wrong += 1
