@@ -55,9 +55,10 @@ instructions() {
     same "newer instructions" "$(awk -v newer="^($newer)\$" '$1 ~ newer' "$place/code")" ""
 }
 
-# No data that could be written, and no wish for a stack that can be executed.
+# No data that could be written, no tables beside the code, and no wish for a stack that can be executed.
 data() {
     same "sections that can be written" "$(sections | awk '$3 ~ /W/ && $2 !~ /^0+$/ { print $1 }')" ""
+    same "tables and marks" "$(sections | awk '$1 ~ /^\.(eh_frame|debug_|note\.gnu\.property)/ { print $1 }')" ""
     same "the note on the stack" "$(sections | awk '$1 == ".note.GNU-stack" { print $3 }')" "-"
 }
 

@@ -94,7 +94,7 @@ as() {
 
 c99() {
     as "C99" "$cc -std=c99 $strict"
-    refused examples/refused/09
+    refusals_told
     declaration
 }
 
@@ -109,6 +109,13 @@ refused() {
     [ "$status" -eq 1 ] || problem "README's program: status $status for a refused sheet"
     [ ! -s "$place/out" ] || problem "README's program prints a refusal on standard output"
     [ "$(cat "$place/err")" = "refused: $number" ] || problem "README's program says: $(cat "$place/err")"
+}
+
+refusals_told() {
+    local sheet
+    for sheet in examples/refused/*.sheet; do
+        refused "${sheet%.sheet}"
+    done
 }
 
 # README's declaration is that of the header: C takes a function twice, if it is the same.

@@ -131,7 +131,8 @@ reads_nothing() {
 }
 
 faults() {
-    local sheet=examples/three.sheet
+    local sheet=examples/three.sheet bad
+    bad=$(find examples/refused -name '*.sheet' | sort | head -n 1)
     reads_nothing "a missing file" /dev/null "$place/none.sheet"
     grep -q -F "$place/none.sheet" "$place/err" || problem "a missing file: not named"
     reads_nothing "a folder" /dev/null "$place"
@@ -149,7 +150,7 @@ faults() {
     fault "a closed input"
     silent "a closed input" out
     status=0
-    "$program" examples/refused/01.sheet > "$place/out" 2> /dev/full || status=$?
+    "$program" "$bad" > "$place/out" 2> /dev/full || status=$?
     ended "a refusal whose words cannot be written" 1
     silent "a refusal whose words cannot be written" out
 }

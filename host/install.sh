@@ -9,7 +9,7 @@ set -eu -o pipefail
 # PREFIX is text to be taken apart byte by byte, and the files are for everybody.
 export LC_ALL=C
 umask 022
-here=$(cd "$(dirname "$0")" && pwd)
+here=$(dirname -- "$(realpath -- "$0")")
 prefix=${PREFIX-/usr/local}
 destdir=${DESTDIR-}
 

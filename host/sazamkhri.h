@@ -13,8 +13,9 @@
  * The library is for x86-64 Linux: ELF, the System V calling convention, and no
  * instruction that an x86-64 processor may lack. It is position independent, so
  * it links into programs of every kind and into shared objects. It has no data
- * of its own, and asks for no executable stack. This header is for C99 and later
- * and for C++11 and later.
+ * of its own, and asks for no executable stack. It carries no tables for
+ * debuggers and no marks for control-flow enforcement (CET). This header is for
+ * C99 and later and for C++11 and later.
  */
 #ifndef SAZAMKHRI_H
 #define SAZAMKHRI_H

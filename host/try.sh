@@ -76,7 +76,7 @@ library() {
             '__attribute__((visibility("hidden")))' \
             'uint64_t true_listing(const uint8_t *, size_t, uint8_t *, size_t);' "$code" > wrong.c
         # shellcheck disable=SC2086
-        $CC -O1 -fPIC $flags -I"$copy/host" -c wrong.c -o wrong.o
+        $CC -O1 -fPIC -fno-asynchronous-unwind-tables -fcf-protection=none $flags -I"$copy/host" -c wrong.c -o wrong.o
         ld -r wrong.o host.o -o both.o 2> warnings
         objcopy --localize-symbol true_listing both.o
         rm -f libhost.a
@@ -157,6 +157,7 @@ archive_mistakes() {
     in_archive "code for one place" \
         'static const char at[] = "at"; text += value == 3 ? (uintptr_t)at : 0; value += text == 0;' "-fno-pic" \
         "linked as pie|linked as a shared object"
+    in_archive "a table for debuggers" "" "-fasynchronous-unwind-tables" "tables and marks: '.eh_frame'"
     in_archive "a stack to execute" "" "-Wa,--execstack" "the note on the stack"
 }
 
