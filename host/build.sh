@@ -1,16 +1,28 @@
-#!/bin/sh
-# Builds the example host over the library: target/host/list_sheet, and with the sanitizers target/host/list_sheet.san.
-# The library comes first: rt staticlib host.
-set -eu
+#!/usr/bin/env bash
+# Builds the C programs of host/ over libsazamkhri.a, plain and with the sanitizers, into target/host.
+# The library itself comes first: rt staticlib host.
+# PROGRAMS and KINDS say which are built, if not all: list_sheet check, and plain san.
+set -eu -o pipefail
 cd "$(dirname "$0")/.."
+to=target/host
 CC=${CC:-cc}
-lib=target/staticlib/libhost.a
-[ -f "$lib" ] || { echo "no $lib: run 'rt staticlib host' first" >&2; exit 1; }
-mkdir -p target/host
-warn="-std=c11 -O2 -pthread -Wall -Wextra -Wpedantic -Werror"
-# shellcheck disable=SC2086
-for name in list_sheet check; do
-    $CC $warn -Ihost "host/$name.c" "$lib" -o "target/host/$name"
-    $CC $warn -g -fsanitize=address,undefined -fno-sanitize-recover=all -Ihost "host/$name.c" "$lib" -o "target/host/$name.san"
+host/library.sh
+mkdir -p "$to"
+# -z lazy: the first call then looks memset up, which takes stack too, and host/check.c measures that.
+flags="-std=c99 -O2 -pthread -Wall -Wextra -Wpedantic -Werror -Wl,-z,lazy"
+sanitizers="-g -fsanitize=address,undefined -fno-sanitize-recover=all"
+
+# build NAME KIND: one program. The flags, and CC with flags of its own, are split into words.
+build() {
+    local more='' end=''
+    [ "$2" = plain ] || { more=$sanitizers; end=.san; }
+    # shellcheck disable=SC2086
+    $CC $flags $more -Ihost "host/$1.c" -Ltarget/lib -lsazamkhri -o "$to/$1$end"
+}
+
+for name in ${PROGRAMS:-list_sheet check}; do
+    for kind in ${KINDS:-plain san}; do
+        build "$name" "$kind"
+    done
 done
-echo "built target/host/list_sheet and target/host/check, and both with the sanitizers"
+echo "built in $to: ${PROGRAMS:-list_sheet check} (${KINDS:-plain san})"

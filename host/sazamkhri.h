@@ -6,8 +6,16 @@
  * and every buffer (crates/host and crates/listing); what the caller has to see
  * to is under 'What the caller owes'.
  *
- * Link with libhost.a, which `rt staticlib host` makes in target/staticlib/.
- * Of the C library it needs memset, and nothing else: no heap, no files.
+ * Link with libsazamkhri.a: `make install` puts it and this header where you
+ * say, with a file for pkg-config. Of the C library it needs memset, and nothing
+ * else: no heap, no files.
+ *
+ * The library is for x86-64 Linux: ELF, the System V calling convention, and no
+ * instruction that an x86-64 processor may lack. It is position independent, so
+ * it links into programs of every kind and into shared objects. It has no data
+ * of its own, and asks for no executable stack. It carries no tables for
+ * debuggers and no marks for control-flow enforcement (CET). This header is for
+ * C99 and later and for C++11 and later.
  */
 #ifndef SAZAMKHRI_H
 #define SAZAMKHRI_H
@@ -19,6 +27,12 @@
 extern "C" {
 #endif
 
+/* The version of header and library. */
+#define SAZAMKHRI_VERSION_MAJOR 1
+#define SAZAMKHRI_VERSION_MINOR 0
+#define SAZAMKHRI_VERSION_PATCH 0
+#define SAZAMKHRI_VERSION "1.0.0"
+
 /* The most bytes of a sheet. A longer one is refused with 11, before all else. */
 #define SAZAMKHRI_SHEET_LIMIT 24576
 
@@ -28,6 +42,38 @@ extern "C" {
 
 /* What the number of a refusal is added to. Every value below it is a length. */
 #define SAZAMKHRI_REFUSED UINT64_C(1000000)
+
+/* The bytes of stack that a call may use: see 'What the caller owes'. */
+#define SAZAMKHRI_STACK 49152
+
+/* The refusals. SAZAMKHRI_REFUSED is added to these numbers. */
+enum sazamkhri_refusal {
+    /* k is 0 or above 64 */
+    SAZAMKHRI_K_OUT_OF_RANGE = 1,
+    /* too many contexts or codes for the tables (cannot arise from a sheet) */
+    SAZAMKHRI_TABLES_TOO_LARGE = 2,
+    /* the contexts do not follow each other (cannot arise from a sheet) */
+    SAZAMKHRI_OFFSETS_BROKEN = 3,
+    /* a code above 4,095 */
+    SAZAMKHRI_CODE_TOO_LARGE = 4,
+    /* a code that is not above the one before it in its context */
+    SAZAMKHRI_CODE_NOT_RISING = 5,
+    /* no room for the list (cannot arise in this call) */
+    SAZAMKHRI_NO_ROOM_FOR_LIST = 6,
+    /* no room for the work (cannot arise in this call) */
+    SAZAMKHRI_NO_ROOM_FOR_WORK = 7,
+    /* more than 2,048 pairs are met. 64 contexts always fit (2,016 pairs). With
+     * more, number rare types first, ask for fewer pairs, or list fewer contexts. */
+    SAZAMKHRI_TOO_MANY_MET = 8,
+    /* the sheet is badly formed, or stops early */
+    SAZAMKHRI_BADLY_FORMED = 9,
+    /* a number above 65,535 */
+    SAZAMKHRI_NUMBER_TOO_LARGE = 10,
+    /* the sheet has over 24,576 bytes, over 256 contexts or over 4,096 codes */
+    SAZAMKHRI_SHEET_TOO_LARGE = 11,
+    /* the listing does not fit the buffer */
+    SAZAMKHRI_TEXT_TOO_SMALL = 12
+};
 
 /*
  * Lists a sheet.
@@ -42,28 +88,13 @@ extern "C" {
  *   the front of the buffer and is not ended by a zero byte of its own; every
  *   byte behind it, to the buffer's end, is zero;
  *
- *   1,000,000 plus the number of the refusal, if it was not. Then every byte of
- *   the buffer is zero. The place of a refusal is not told here; the listing
- *   program prints it.
+ *   1,000,000 plus the number of the refusal (enum sazamkhri_refusal), if it was
+ *   not. Then every byte of the buffer is zero. The place of a refusal is not
+ *   told here; the listing program prints it.
  *
  * The listing has the lines `k=`, `found=`, `events=` and `met=`, and then one
  * `pair=` line for each pair found: lower context, higher context, codes shared,
  * codes in either. Contexts count from 0. Every line ends in byte 10.
- *
- * Refusals
- *
- *    1  k is 0 or above 64
- *    2  too many contexts or codes for the tables (cannot arise from a sheet)
- *    3  the contexts do not follow each other   (cannot arise from a sheet)
- *    4  a code above 4,095
- *    5  a code that is not above the one before it in its context
- *    6  no room for the list                    (cannot arise in this call)
- *    7  no room for the work                    (cannot arise in this call)
- *    8  more than 2,048 pairs are met
- *    9  the sheet is badly formed, or stops early
- *   10  a number above 65,535
- *   11  the sheet has over 24,576 bytes, over 256 contexts or over 4,096 codes
- *   12  the listing does not fit the buffer
  *
  * 12 is tested last: a sheet that is refused with another number gets that one,
  * whatever the buffer. A listing as long as the buffer is accepted.
@@ -76,8 +107,10 @@ extern "C" {
  *   that can be written. The two do not overlap.
  *   Nobody else writes either of them, or reads the buffer, until the call
  *   returns.
- *   48 KB of stack are left: the tables of the call have 38 KB. (Measured: 30 KB,
- *   since the compiler leaves out what is never read. host/check.c measures it.)
+ *   48 KB of stack are left (SAZAMKHRI_STACK): the tables of the call have 38 KB.
+ *   (Measured: 30 KB, since the compiler leaves out what is never read, and 3 KB
+ *   more where a program's first call looks memset up. host/check.c measures it.)
+ *   What a thread needs for itself comes on top.
  *
  * What the caller gets
  *

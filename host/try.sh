@@ -1,0 +1,202 @@
+#!/usr/bin/env bash
+# Tries the checks of host/test.sh on mistakes: each is planted in a copy, and the check must notice, and say what.
+#
+#     host/try.sh
+#
+# Exits with 1 if a mistake goes unnoticed, or if a check refuses the copy as it is. The library comes first: make
+# libraries.
+set -eu -o pipefail
+cd "$(dirname "$0")/.."
+host/library.sh
+real=$PWD
+CC=${CC:-cc}
+copy=$(mktemp -d)
+trap 'rm -rf "$copy"' EXIT
+tried=0 wrong=0
+export KINDS=plain
+
+# The part of the project that the checks look at, as it is.
+fresh() {
+    rm -rf "$copy/host" "$copy/target"
+    mkdir -p "$copy/target/staticlib"
+    cp -r host "$copy/host"
+    cp README.md "$copy/README.md"
+    cp target/staticlib/libhost.a "$copy/target/staticlib/libhost.a"
+    ln -s -f -n "$real/examples" "$copy/examples"
+    ln -s -f -n "$real/crates" "$copy/crates"
+}
+
+# The checks, each on the copy.
+programs() { PROGRAMS=list_sheet "$copy/host/build.sh" && "$copy/host/check-program.sh"; }
+calls() { PROGRAMS=check "$copy/host/build.sh" && "$copy/target/host/check"; }
+archives() { "$copy/host/library.sh" && "$copy/host/check-archive.sh"; }
+installs() { "$copy/host/check-install.sh" "$@"; }
+
+# as_it_is CHECK..: the check passes the copy without a mistake.
+as_it_is() {
+    fresh
+    "$@" > "$copy/said" 2>&1 || { echo "$*: refuses the copy as it is"; cat "$copy/said"; wrong=$((wrong + 1)); }
+}
+
+# noticed MISTAKE WORDS CHECK..: the check fails, and says these words (an extended pattern).
+noticed() {
+    local mistake=$1 words=$2
+    shift 2
+    tried=$((tried + 1))
+    if ("$@") > "$copy/said" 2>&1; then
+        echo "$mistake: not noticed"
+        wrong=$((wrong + 1))
+    elif ! grep -q -E -e "$words" "$copy/said"; then
+        echo "$mistake: noticed, but not by '$words':"
+        tail -n 5 "$copy/said"
+        wrong=$((wrong + 1))
+    fi
+}
+
+# plant FILE EDIT MISTAKE WORDS CHECK..: one edit in one file of the copy.
+plant() {
+    local file=$1 edit=$2
+    shift 2
+    fresh
+    sed -i -E -e "$edit" "$copy/$file"
+    ! cmp -s "$file" "$copy/$file" || { echo "$1: nothing was planted"; wrong=$((wrong + 1)); }
+    noticed "$@"
+}
+
+# library MISTAKE CODE FLAGS WORDS CHECK..: another library, which makes the true call and one mistake more.
+library() {
+    local mistake=$1 code=$2 flags=$3 words=$4
+    shift 4
+    fresh
+    (
+        cd "$copy/target/staticlib"
+        ar x libhost.a host.o
+        objcopy --redefine-sym sazamkhri_listing=true_listing --localize-hidden host.o
+        printf '%s\n' '#include "sazamkhri.h"' \
+            '__attribute__((visibility("hidden")))' \
+            'uint64_t true_listing(const uint8_t *, size_t, uint8_t *, size_t);' "$code" > wrong.c
+        # shellcheck disable=SC2086
+        $CC -O1 -fPIC -fno-asynchronous-unwind-tables -fcf-protection=none $flags -I"$copy/host" -c wrong.c -o wrong.o
+        ld -r wrong.o host.o -o both.o 2> warnings
+        objcopy --localize-symbol true_listing both.o
+        rm -f libhost.a
+        ar rcs libhost.a both.o
+    )
+    noticed "$mistake" "$words" "$@"
+}
+
+# with STATEMENTS: the code of a call that does the statements behind the true one.
+with() {
+    printf '%s\n' \
+        "uint64_t sazamkhri_listing(const uint8_t *sheet, size_t sheet_len, uint8_t *text, size_t text_len) {" \
+        "uint64_t value = true_listing(sheet, sheet_len, text, text_len);" "$1" "return value; }"
+}
+
+# Where the mistakes are, and which check they are for.
+in_list_sheet() { plant host/list_sheet.c "$@" programs; }
+in_check() { plant host/check.c "$@" calls; }
+in_header() { plant host/sazamkhri.h "$@" calls; }
+in_call() { library "$1" "$(with "$2")" "" "$3" calls; }
+in_archive() { library "$1" "$(with "$2")${5-}" "$3" "$4" archives; }
+in_readme() { plant README.md "$1" "README: $2" "$3" installs c99; }
+
+list_sheet_mistakes() {
+    in_list_sheet 's/return REFUSED;/return LISTED;/' "status 0 for a refusal" "status 0, not 1"
+    in_list_sheet 's/return LISTED;/return REFUSED;/' "status 1 for a listing" "status 1, not 0"
+    in_list_sheet 's/= 2 \}/= 1 }/' "status 1 for a fault" "missing file: status 1, not 2"
+    in_list_sheet 's/#include <errno.h>/&\n#include <stdlib.h>/; s/return LISTED;/abort();/' \
+        "prints and aborts" "status 134, not 0"
+    in_list_sheet 's/\|\| fflush/|| putchar(0) != 0 &/' "a byte more" "another listing"
+    in_list_sheet 's/\(size_t\)value,/(size_t)value - 1,/; s/\(size_t\)value \|\|/(size_t)value - 1 ||/' \
+        "a byte less" "another listing"
+    in_list_sheet 's/fprintf\(stderr, "refused/fprintf(stdout, "refused/' "words on standard output" "prints on out"
+    in_list_sheet 's/return LISTED;/{ fputs("listed", stderr); & }/' "words beside a listing" "prints on err"
+    in_list_sheet 's/fprintf\(stderr, "refused/fprintf(fopen("\/dev\/null", "w"), "refused/' \
+        "no words" "not the words of refusal"
+    in_list_sheet 's/(CODE_)TOO_LARGE/\1X/; s/CODE_NOT_RISING/CODE_TOO_LARGE/; s/CODE_X/CODE_NOT_RISING/' \
+        "the words of another refusal" "not the words of refusal 4"
+    in_list_sheet 's/ \|\| fflush\(stdout\) != 0//' "no look at the full disk" "full disk: status 0, not 2"
+    in_list_sheet 's/ferror\(from\)/0/' "no look at what was read" "a folder: status 1, not 2"
+    in_list_sheet 's/LIMIT \+ 1\]/LIMIT]/' "a long sheet cut off" "not the words of refusal 11"
+    in_list_sheet 's/argc > 2/argc > 3/' "two arguments taken" "two arguments: status 1, not 2"
+}
+
+check_mistakes() {
+    in_check 's/met=2.npair=0 1 4 5/met=3\\npair=0 1 4 5/' "another listing expected" "paper's sheet .*WRONG"
+    in_check 's/1000012, ""/1000011, ""/' "another refusal expected" "in a byte less .*WRONG"
+    in_check 's/ROOM, 27,/ROOM, 28,/' "another length expected" "no contexts .*WRONG"
+    in_check 's/met > 2048/met > 2000/' "a smaller trail expected" "64 contexts that all meet.*WRONG"
+    in_check 's/MEASURED = 30/MEASURED = 29/' "less stack said to be measured" "the most of all calls.*WRONG"
+    in_check 's/MEASURED = 30/MEASURED = 31/' "more stack said to be measured" "the most of all calls.*WRONG"
+    in_check 's/neediest, above, most - ALIGNED/neediest, above, most + ALIGNED/' \
+        "a guard that is not reached" "with less is ended .*WRONG"
+    in_check 's/neediest, above, SAZAMKHRI_STACK/neediest, above, 24 * 1024/' "too small a thread" "Segmentation fault"
+    in_header 's/(STACK) 49152/\1 30000/' "too little stack promised" "16 codes.* 30[0-9]* WRONG"
+    in_header 's/(NOT_RISING =) 5/\1 15/' "a wrong number in the header" "a code twice .*WRONG"
+    in_header 's/(PATCH) 0/\1 1/' "two versions" "version .*WRONG"
+    in_header 's/(SHEET_LIMIT) 24576/\1 24577/' "another limit in the header" "a sheet of 24,576 bytes: not to be had"
+}
+
+call_mistakes() {
+    in_call "a byte written behind the buffer" 'text[text_len] = 0;' "Segmentation fault"
+    in_call "a byte written before the buffer" 'text[-1] = 0;' "Segmentation fault"
+    in_call "a byte read behind the sheet" 'value += ((volatile const uint8_t *)sheet)[sheet_len] & 0;' \
+        "Segmentation fault"
+    in_call "a byte of the sheet written" 'if (sheet_len) ((uint8_t *)sheet)[0] = (uint8_t)107;' "Segmentation fault"
+    in_call "no zero behind a listing" 'if (text_len) text[text_len - 1] = 1;' "no contexts .*WRONG"
+    in_call "another refusal" 'value += value == 1000008;' "65 contexts that all meet .*WRONG"
+    in_call "60,000 bytes of stack" 'volatile char much[60000]; much[0] = 0; much[59999] = 0;' " 9[0-9]{4} WRONG"
+}
+
+archive_mistakes() {
+    in_archive "a symbol too many" "" "" "symbols it gives" "int other(void) { return 1; }"
+    in_archive "another function needed" 'if (value == 7) abort();' "-include stdlib.h" "symbols it needs"
+    in_archive "data" 'static volatile uint64_t calls; calls++;' "" "sections that can be written"
+    in_archive "code for newer processors" 'value += text_len == 3 ? __builtin_popcountll(value) : 0;' "-mpopcnt" \
+        "newer instructions: 'popcnt'"
+    in_archive "code for one place" \
+        'static const char at[] = "at"; text += value == 3 ? (uintptr_t)at : 0; value += text == 0;' "-fno-pic" \
+        "linked as pie|linked as a shared object"
+    in_archive "a table for debuggers" "" "-fasynchronous-unwind-tables" "tables and marks: '.eh_frame'"
+    in_archive "a stack to execute" "" "-Wa,--execstack" "the note on the stack"
+}
+
+readme_mistakes() {
+    in_readme 's/^make install PREFIX=.*/make install/' "no PREFIX" "make install: .*not tried"
+    in_readme 's/-lsazamkhri/-lsazamkri/' "another library" "README: 0 blocks with -lsazamkhri"
+    in_readme 's/\.local\/include"/.local\/inc"/' "another folder" "plain flags, C99: "
+    in_readme 's/\(pkg-config --cflags --libs/(pkg-config --libs/' "no flags" "pkg-config, C99: "
+    in_readme 's/listing\(sheet, length, text, sizeof text\)/listing(sheet, length, text)/' \
+        "an argument too few" "plain flags, C99: "
+    in_readme 's/fwrite\(text, 1, told/fwrite(text, 1, told - 1/' "a byte less" "C99: another listing"
+    in_readme 's/^uint64_t sazam/uint32_t sazam/' "another type" "README: 0 blocks"
+    in_readme 's/size_t text_len\);/int text_len);/' "another argument" "declaration: "
+}
+
+# What these install goes into the temporary folder of the check, whatever they do wrong.
+# shellcheck disable=SC2016
+install_mistakes() {
+    plant host/install.sh 's/chmod 644/chmod 600/' "a file for the owner alone" "files and modes" installs modes
+    plant host/install.sh '/^umask/d' "folders for the owner alone" "folders that not all may read" installs modes
+    plant host/install.sh 's/ lib\/libsazamkhri.a lib/ lib/' "a file left" "left: " installs modes staged removed
+    plant host/install.sh 's/rm -f -- "\$root\/\$file"/& "$root\/lib\/libother.a"/' \
+        "a file of others removed" "left: " installs modes staged removed
+    plant host/install.sh 's/^root=.*/root=$prefix/' "DESTDIR not seen" "installed in PREFIX itself" installs staged
+    plant host/install.sh 's/escaped "\$prefix"/echo "$prefix"/' "no backslashes" "eval: " installs homes
+    plant host/install.sh '/PREFIX is/d' "a relative PREFIX taken" "a relative PREFIX: status" installs refusals
+    plant host/sazamkhri.pc.in 's/-I"(.*)"/-I\1/' "no quotes" "two  words: eval" installs homes
+    plant host/sazamkhri.pc.in 's/@VERSION@/0.9/' "another version" "version of pkg-config: 0.9" installs staged
+}
+
+as_it_is programs
+as_it_is calls
+as_it_is archives
+as_it_is installs
+list_sheet_mistakes
+check_mistakes
+call_mistakes
+archive_mistakes
+readme_mistakes
+install_mistakes
+echo "mistakes in C and around it: $tried tried, $wrong problems"
+[ "$wrong" -eq 0 ]
