@@ -29,10 +29,11 @@ program:
 #: make host                  prove and build the library for C and an example: target/host/list_sheet FILE
 host:
 	$(BUILD) host
-	host/build.sh
+	PROGRAMS=list_sheet KINDS=plain host/build.sh
 
 #: make install PREFIX=DIR    put header, library and pkg-config file for C there (also: make uninstall PREFIX=DIR)
-install: host
+install:
+	$(BUILD) host
 	host/install.sh
 
 uninstall:

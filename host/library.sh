@@ -5,7 +5,7 @@ set -eu -o pipefail
 cd "$(dirname "$0")/.."
 made=target/staticlib/libhost.a
 lib=target/lib/libsazamkhri.a
-[ -f "$made" ] || { echo "no $made: run 'make libraries' first" >&2; exit 1; }
+[ -f "$made" ] || { echo "no $made: run 'make host' first" >&2; exit 1; }
 cmp -s "$made" "$lib" && exit 0
 mkdir -p target/lib
 cp "$made" "$lib.new"

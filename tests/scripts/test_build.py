@@ -195,6 +195,18 @@ class WithTheKit(unittest.TestCase):
                 self.assertEqual((run.returncode, run.stderr), (0, ""), name)
                 self.assertEqual(run.stdout, (ROOT / "examples/three.listing").read_text(), name)
 
+    def test_install_takes_its_folders_as_they_are_typed(self):
+        with tempfile.TemporaryDirectory() as folder:
+            stage, prefix = Path(folder) / "a $stage", f"{folder}/it's $HOME"
+            words = (f"PREFIX={prefix}", f"DESTDIR={stage}")
+            run = make(ROOT, "install", *words)
+            self.assertEqual((run.returncode, run.stderr), (0, ""))
+            put = Path(f"{stage}{prefix}")
+            files = sorted(str(f.relative_to(put)) for f in put.rglob("*") if f.is_file())
+            self.assertEqual(files, ["include/sazamkhri.h", "lib/libsazamkhri.a", "lib/pkgconfig/sazamkhri.pc"])
+            self.assertEqual(make(ROOT, "uninstall", *words).returncode, 0)
+            self.assertEqual([f for f in put.rglob("*") if f.is_file()], [])
+
     def test_help_is_what_bare_make_prints(self):
         bare, asked = make(ROOT), make(ROOT, "help")
         self.assertEqual(bare.stdout, asked.stdout)
