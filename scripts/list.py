@@ -1,5 +1,10 @@
-#!/usr/bin/env python3
-"""Lists a sheet, and says in words why a sheet is refused.
+#!/bin/sh
+''':'
+# Python does not even start if standard input is a folder, so a shell looks first.
+[ ! -d /dev/stdin ] || { echo "standard input: cannot be read: it is a folder; name a sheet in it" >&2; exit 2; }
+exec python3 "$0" "$@"
+
+Lists a sheet, and says in words why a sheet is refused.
 
     scripts/list.py [--] [SHEET]
 
@@ -10,7 +15,7 @@ wrong, where (lines and columns count from 1) and what to do.
 Exit status: 0 for a listing, 1 for a refused sheet, 2 if the sheet cannot be read, the listing cannot be written, or
 the program is missing or broken. The program is target/bin/sazamkhri, or the file that the environment variable
 SAZAMKHRI_PROGRAM names.
-"""
+'''
 import errno
 import os
 import re
@@ -24,7 +29,7 @@ from itertools import accumulate
 from pathlib import Path
 
 PROGRAM = Path(__file__).resolve().parent.parent / "target" / "bin" / "sazamkhri"
-LIMIT = 24576  # bytes of a sheet; one more is read, so that a longer sheet is seen
+LIMIT = 24576  # bytes of a sheet; four more are read, so that a longer sheet is seen, with a whole character behind it
 PATIENCE = 60  # seconds; the program needs far less than one
 ROOM = 36  # columns of a sheet's line that are shown on either side of the place
 
@@ -392,7 +397,7 @@ def read_sheet(name):
     try:
         with open(0 if name is None else name, "rb", closefd=name is not None) as source:
             os.set_blocking(source.fileno(), True)
-            text, size = source.read(LIMIT + 1), os.fstat(source.fileno()).st_size
+            text, size = source.read(LIMIT + 4), os.fstat(source.fileno()).st_size
     except OSError as error:
         raise Trouble(f"{told}: cannot be read: {reason(error)}") from error
     return Sheet(told, text, f"{size:,}" if name is not None and size > LIMIT else "more than 24,576")
