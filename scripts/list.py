@@ -352,15 +352,6 @@ def refusal_words(sheet, number, place):
     return f"{head}{end}: line {line.number}, column {column}\n{excerpt(sheet.text, at)}{words}"
 
 
-def hold_closed_streams():
-    """A closed standard stream would give its number to the next file. A stand-in holds it, which fails when used."""
-    for stream, mode in enumerate((os.O_WRONLY, os.O_RDONLY, os.O_RDONLY)):
-        try:
-            os.fstat(stream)
-        except OSError:
-            os.open(os.devnull, mode)
-
-
 def reason(error):
     return FAULTS.get(error.errno, os.strerror(error.errno or 0))
 
@@ -442,7 +433,6 @@ def status_of(sheet, run):
 def main(arguments):
     if signal.getsignal(signal.SIGINT) is signal.default_int_handler:
         signal.signal(signal.SIGINT, signal.SIG_DFL)  # an interrupt ends the script without a word
-    hold_closed_streams()
     try:
         sheet = read_sheet(sheet_named(arguments))
         run = run_program(sheet)

@@ -18,6 +18,7 @@ import traceback
 import unittest
 from collections import namedtuple
 from importlib.util import module_from_spec, spec_from_file_location
+from itertools import product
 from pathlib import Path
 
 ROOT = Path(__file__).resolve().parent.parent.parent
@@ -173,9 +174,8 @@ def listed(*arguments, program=None, **more):
 
 
 def through_shell(redirection, *arguments):
-    """A run of the script whose streams a shell has redirected."""
-    shell = f'exec "$0" "$@" {redirection}'
-    return subprocess.run(["sh", "-c", shell, sys.executable, SCRIPT, *arguments], timeout=60,
+    """A run of the script as users call it, with streams that a shell has redirected."""
+    return subprocess.run(["sh", "-c", f'exec "$0" "$@" {redirection}', SCRIPT, *arguments], timeout=60,
                           stdin=subprocess.DEVNULL, stdout=subprocess.PIPE, stderr=subprocess.PIPE)
 
 
@@ -375,9 +375,7 @@ class Streams(unittest.TestCase):
         self.trouble(listed(self.sheet / "x"), "good.sheet/x", "cannot be read")
         self.trouble(listed("--", ""), "no sheet was named")
         self.trouble(through_shell("<&-"), "standard input", "it is closed")
-        with subprocess.Popen(["sh", "-c", 'exec "$0" <"$1"', SCRIPT, self.path], stderr=subprocess.PIPE) as run:
-            told = run.stderr.read()
-        self.trouble(Run(run.wait(), b"", told), "standard input", "it is a folder")
+        self.trouble(through_shell(f"<'{self.path}'"), "standard input", "it is a folder")
 
     def test_arguments(self):
         self.trouble(listed("my", "finds.sheet"), "my: one sheet at a time, but finds.sheet", "quotes")
@@ -410,13 +408,11 @@ class Streams(unittest.TestCase):
             self.trouble(listed(self.sheet, stdout=gone), self.sheet, "the program that should read it has gone")
 
     def test_status_without_standard_error(self):
-        refused, missing = ROOT / "examples" / "refused" / "09.sheet", self.path / "missing"
-        for closed in ("2>&-", "2>/dev/full", "<&- 2>&-"):
-            for sheet, status in ((self.sheet, 0), (refused, 1), (missing, 2)):
-                run = through_shell(closed, sheet)
-                self.assertEqual((run.returncode, run.stderr), (status, b""), closed)
-                self.assertEqual(run.stdout, b"" if status == 2 else sheet.with_suffix(".listing").read_bytes()
-                                 if status == 1 else LISTING)
+        cases = ((self.sheet, 0, LISTING), (ROOT / "examples" / "refused" / "09.sheet", 1, b"refused=9 20\n"),
+                 (self.path / "missing", 2, b""))
+        for closed, (sheet, *wanted) in product(("2>&-", "2>/dev/full", "<&- 2>&-"), cases):
+            run = through_shell(closed, sheet)
+            self.assertEqual([run.returncode, run.stdout, run.stderr], [*wanted, b""], closed)
         self.assertEqual(through_shell(">&- 2>&-", self.sheet).returncode, 2)
         self.assertEqual(through_shell("<&- >&- 2>&-", self.sheet).returncode, 2)
 
@@ -456,7 +452,7 @@ class Streams(unittest.TestCase):
     def test_fifo_and_slow_pipe(self):
         fifo = self.path / "fifo"
         os.mkfifo(fifo)
-        slowly = f"for part in 'k=1' 'contexts=1' 'c=4'; do sleep 0.1; echo \"$part\"; done"
+        slowly = "for part in 'k=1' 'contexts=1' 'c=4'; do sleep 0.1; echo \"$part\"; done"
         with subprocess.Popen(["sh", "-c", f"{{ {slowly}; }} >'{fifo}'"]):
             from_fifo = listed(fifo)
         with subprocess.Popen(["sh", "-c", slowly], stdout=subprocess.PIPE) as pipe:
@@ -540,15 +536,13 @@ class StandIns(unittest.TestCase):
         general = {1: "k is 0 or above 64.", 4: "A code is above 4,095.", 9: "The sheet is badly formed.",
                    5: "A code is not above the one before it in its context.", 10: "A number is above 65,535.",
                    11: "There is no room for the sheet."}
-        for number, words in general.items():
-            for place in (0, 5, 13, 20, len(GOOD), 24576, 999999999):
-                for sheet in (GOOD, b"", b"\xff\xfe\n" * 9, b"k=1\n"):
-                    if number == 9 and (sheet, place) in ((b"", 0), (b"\xff\xfe\n" * 9, 0)):
-                        continue
-                    run = self.listed(f"echo refused={number} {place}", sheet)
-                    with self.subTest(number=number, place=place, sheet=sheet):
-                        self.assertEqual(run.returncode, 1)
-                        self.assertIn(f"\n{words} ", run.stderr.decode())
+        places, rubbish = (0, 5, 13, 20, len(GOOD), 24576, 999999999), b"\xff\xfe\n" * 9
+        causes = {(9, 0, b""), (9, 0, rubbish)}
+        for number, place, sheet in set(product(general, places, (GOOD, b"", rubbish, b"k=1\n"))) - causes:
+            run = self.listed(f"echo refused={number} {place}", sheet)
+            with self.subTest(number=number, place=place, sheet=sheet):
+                self.assertEqual(run.returncode, 1)
+                self.assertIn(f"\n{general[number]} ", run.stderr.decode())
 
     def test_a_program_that_hangs(self):
         self.trouble(self.listed("exec sleep 50", PATIENCE=1), b"", "did not end within 1 seconds")
