@@ -53,7 +53,7 @@ def refusals(root):
     return differ("refusals", {
         "README.md": [int(n) for n in Text(root, "README.md").find(r"^\| (\d+) \|")],
         "host/sazamkhri.h": [int(n) for n in Text(root, "host/sazamkhri.h").find(r"^ *SAZAMKHRI_[A-Z_]+ = (\d+)\b")],
-        "scripts/list.py": sorted(int(n) for n in Text(root, "scripts/list.py").find(r"^    (\d+): \(")),
+        "scripts/refusals.py": [int(n) for n in Text(root, "scripts/refusals.py").find(r"^    (\d+): Refusal\(")],
     })
 
 
@@ -61,12 +61,12 @@ def limits(root):
     readme = Text(root, "README.md")
     header = Text(root, "host/sazamkhri.h")
     listing = Text(root, "crates/listing/src/lib.rt")
-    front = Text(root, "scripts/list.py")
+    front = Text(root, "scripts/refusals.py")
     wrong = differ("bytes of a sheet", {
         "README.md": number(readme.find(r"^\| a sheet for the program or the host \| ([\d,]+) bytes")[0]),
         "host/sazamkhri.h": number(header.find(r"#define SAZAMKHRI_SHEET_LIMIT (\d+)")[0]),
         "crates/sazamkhri": number(Text(root, "crates/sazamkhri/src/main.rt").find(r"INPUT: usize = (\d+)")[0]) - 1,
-        "scripts/list.py": number(front.find(r"^LIMIT = ([\d_]+)")[0]),
+        "scripts/refusals.py": number(front.find(r"^LIMIT = (\d+)")[0]),
     })
     wrong += differ("pairs on the trail", {
         "README.md": number(readme.find(r"^\| trail of the program and the host \| ([\d,]+) pairs")[0]),

@@ -1,7 +1,8 @@
 #!/usr/bin/env python3
-"""Tries the gate itself: it counts what passed and what failed, goes on behind a failure, and keeps its logs; and the
-check of the stored sheets notices what it should.
+"""Tries the gate itself: it counts what passed and what failed, goes on behind a failure, and keeps its logs; the check of
+the stored sheets notices what it should; and README shows what is printed.
 """
+import re
 import shutil
 import subprocess
 import tempfile
@@ -88,6 +89,22 @@ class Examples(unittest.TestCase):
         for behind in ("exit 3", "kill -9 $$", "echo more"):
             self.assertNotEqual(self.check(self.stand_in(behind)), 0, behind)
         self.assertEqual(self.check(self.stand_in("exit 0")), 0)
+
+
+class Readme(unittest.TestCase):
+    """What README shows of a sheet, a listing and a refusal is what is there."""
+
+    def blocks(self):
+        return re.findall(r"^```text\n(.*?)^```$", (ROOT / "README.md").read_text(encoding="utf-8"), re.M | re.S)
+
+    def test_sheet_and_listing(self):
+        for name in ("examples/three.sheet", "examples/three.listing"):
+            self.assertIn((ROOT / name).read_text(), self.blocks())
+
+    def test_words_of_a_refusal(self):
+        run = subprocess.run(["scripts/list.py", "examples/refused/09.sheet"], cwd=ROOT, capture_output=True, text=True)
+        self.assertEqual((run.returncode, run.stdout), (1, (ROOT / "examples/refused/09.listing").read_text()))
+        self.assertIn(run.stderr, self.blocks())
 
 
 if __name__ == "__main__":

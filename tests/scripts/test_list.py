@@ -149,6 +149,7 @@ BYTES = [
 
 
 def load_script():
+    sys.path.insert(0, str(SCRIPT.parent))
     spec = spec_from_file_location("list_script", SCRIPT)
     module = module_from_spec(spec)
     spec.loader.exec_module(module)
