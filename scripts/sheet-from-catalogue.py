@@ -137,7 +137,7 @@ def from_list(rows, has_heads):
         (first, cells), *rows = rows
         heads = [trimmed(cell) for cell in cells]
         check_heads(first, heads, rows)
-        notes.append(f"Read as heads: row {first}, {shown(heads[0])} and {shown(heads[1])}.")
+        notes.append(f"Heads in row {first}: {shown(heads[0])}, {shown(heads[1])}.")
     site, repeats = Site(), 0
     for row, cells in rows:
         name, kind = name_in(cells[0], "context", row, 1), name_in(cells[1], "type", row, 2)
