@@ -15,7 +15,7 @@ import re
 import sys
 import unicodedata
 
-from csv_text import Refused, Unreachable, at_file, name_in, read_bytes, rows_of, say, shown
+from csv_text import DELIMITERS, Refused, Unreachable, at_file, name_in, read_bytes, rows_of, say, shown
 
 NUMBER = "(0|[1-9][0-9]{0,4})"
 COUNTS = ("k", "found", "events", "met")
@@ -24,7 +24,8 @@ HEADS = ("rank", "alike", "shared", "first context", "second context")
 
 def names_in(data):
     """The contexts' names by their numbers."""
-    (row, heads), *rows = rows_of(data)
+    delimiter = next((d for d in DELIMITERS.values() if f"kind{d}".encode() in data[:12]), ",")
+    (row, heads), *rows = rows_of(data, delimiter)
     if [cell.strip() for cell in heads] != ["kind", "number", "name"]:
         raise Refused("this is no file of names: its heads must be kind,number,name.", row, 1)
     names = {}

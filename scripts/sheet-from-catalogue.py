@@ -29,6 +29,10 @@ from csv_text import at_file, letters, name_in, read_bytes, rows_of, say, shown,
 MOST_PAIRS, MOST_CONTEXTS, MOST_TYPES, MOST_CODES = 64, 256, 4096, 4096
 
 
+def counted(number, what):
+    return f"{number} {what}{'' if number == 1 else 's'}"
+
+
 def no_room(what, room, row, column):
     return Refused(f"{what} is one too many: a sheet has room for {room}. Split the site.", row, column)
 
@@ -37,14 +41,14 @@ class Site:
     """Contexts in the order of their first row, each with its types."""
 
     def __init__(self):
-        self.contexts = {}
-        self.codes = 0
+        self.contexts, self.first_rows, self.codes = {}, {}, 0
 
     def open(self, name, row):
         """Makes a context, if it is new."""
         if name not in self.contexts and len(self.contexts) == MOST_CONTEXTS:
             raise no_room(f"context {shown(name)}", f"{MOST_CONTEXTS} contexts", row, 1)
         self.contexts.setdefault(name, set())
+        self.first_rows.setdefault(name, row)
 
     def add(self, name, kind, row, column):
         """Puts a type into a context. Says whether it is new there."""
@@ -75,8 +79,8 @@ def is_present(cell, row, column):
 def check_width(cells, row, wanted, why):
     """Refuses a row with more or fewer cells than are wanted, at the first one too many or missing."""
     if len(cells) != wanted:
-        count = f"{len(cells)} cell{'' if len(cells) == 1 else 's'}"
-        raise Refused(f"the row has {count}, but {why}.", row, min(len(cells), wanted) + 1)
+        words = f"the row has {counted(len(cells), 'cell')}, but {why}."
+        raise Refused(words, row, min(len(cells), wanted) + 1)
 
 
 def types_of(heads, row):
@@ -99,7 +103,7 @@ def add_row(site, types, row, cells):
     """Puts a row of a presence table into the site."""
     name = name_in(cells[0], "context", row, 1)
     if name in site.contexts:
-        words = f"context {shown(name)} stands already in a row above."
+        words = f"context {shown(name)} stands already in row {site.first_rows[name]}."
         raise Refused(f"{words} Put the two rows together, or rename one.", row, 1)
     site.open(name, row)
     for column, (kind, cell) in enumerate(zip(types, cells[1:]), 2):
@@ -220,8 +224,8 @@ def make(call):
     kinds = numbered(site)
     with at_file(sheet, "write"):
         write_all({sheet: sheet_text(site, kinds, call.pairs), names: names_text(site, kinds)})
-    counts = f"{len(site.contexts)} contexts, {len(kinds)} types, {site.codes} codes"
-    say(" ".join([f"Made {sheet} and {names}: {counts}.", *notes]))
+    counts = counted(len(site.contexts), "context"), counted(len(kinds), "type"), counted(site.codes, "code")
+    say(" ".join([f"Made {sheet} and {names}: {', '.join(counts)}.", *notes]))
     # Make reads $ for itself, and the shell all else.
     say("Next: make list SHEET=" + shlex.quote(sheet.replace("$", "$$")))
 

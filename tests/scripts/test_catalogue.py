@@ -175,7 +175,8 @@ class Tables(Trial):
         self.assertEqual(self.codes, ['5" nail', "Bowl; big", "Pot, red", 'a "b" c'])
 
     def test_repeated(self):
-        self.refused("g,Bowl\nG 1,1\nG 2,1\n G 1 ,\n", "--table", "row 4, column 1 (A)", '"G 1" stands already')
+        words = '"G 1" stands already in row 2'
+        self.refused("g,Bowl\nG 1,1\nG 2,1\n G 1 ,\n", "--table", "row 4, column 1 (A)", words)
         words = '"Bowl" stands already in column 2 (B)'
         self.refused("g,Bowl,Bead,Bowl\nG,1,1,1\n", "--table", "row 1, column 4 (D)", words)
         self.refused("g,caf\u00e9,cafe\u0301\nG,1,1\n", "--table", "row 1, column 3 (C)", "stands already")
@@ -192,6 +193,8 @@ class Tables(Trial):
         site = self.made("\n,,\ng,Bowl,Bead\n\n , ,\nG 1,1,\n\n\n,\nG 2,,1\n\n", "--table")
         self.assertEqual(site, [("G 1", {"Bowl"}), ("G 2", {"Bead"})])
         self.refused("\n\ng,Bowl\n\nG 1,1\n,,\nG 2,?\n", "--table", "row 7, column 2 (B)")
+        # the first row that holds something tells the delimiter, although the rows are not even
+        self.refused("\r\n\r\ng,Bowl\r\nG 1,1,1\r\n", "--table", "row 4, column 3 (C)", "3 cells")
 
     def test_hidden_characters(self):
         for hidden in "\n\t\x1b\x7f\x85\u2028\u200b\u00ad\ufeff\u202e":
@@ -353,6 +356,10 @@ class Limits(Trial):
         self.refused("g,t\n\n", "--list", "row 2, column 1 (A)", "no contexts")
         self.refused("g\nG 1\n", "--table", "row 1, column 2 (B)", "no types", options=("--delimiter", "comma"))
         self.refused("g,Bowl\nG,\nH,0\n", "--table", "", "no type is present")
+
+    def test_one_of_each(self):
+        self.made("G,Bowl\n", "--list", "--no-heads")
+        self.assertIn(": 1 context, 1 type, 1 code.", self.notes)
 
     def test_size(self):
         self.refused(b"g,t\n" + b"\n" * (32 * 1024 * 1024), "--list", "", "32 MiB")
@@ -673,6 +680,9 @@ class Listings(unittest.TestCase):
             self.assertIn(old, NAMES)
             self.refused(f"names.csv: {place}: ", names=NAMES.replace(old, new).encode("utf-8", "surrogateescape"))
         self.refused("names.csv: ", "nothing in the file", names="")
+        # mixed up: the sheet or the listing in place of the names
+        for other in ("k=1\ncontexts=1\nc=1 2\n", LISTING, "Grave;Type\nG;Bowl\n"):
+            self.refused("names.csv: line 1, column 1 (A): this is no file of names", names=other)
 
     def test_faults_of_files(self):
         self.named()
@@ -839,7 +849,7 @@ def random_catalogue(rng):
         rows = [[rng.choice(["", "Grave", 'a "b"\n c']), *map(writer.name, types)]]
         rows += [[writer.name(name), *(mark(kind in here) for kind in types)] for name, here in site.items()]
         return writer.text(rows), ["--table", *writer.options()], list(site.items())
-    finds = [(name, kind) for name, here in site.items() for kind in here]
+    finds = [(name, kind) for name, here in site.items() for kind in types if kind in here]
     finds += rng.sample(finds, rng.randint(0, len(finds)))
     rng.shuffle(finds)
     rows = [[writer.name(name), writer.name(kind)] for name, kind in finds]
@@ -889,8 +899,7 @@ class Random(Trial):
             data, options, _ = random_catalogue(rng)
             options = options if rng.random() < 0.8 else options[:1]
             seen.append(self.outcome(seed, damaged(rng, data), options))
-        self.assertGreater(seen.count(0), 50)
-        self.assertGreater(seen.count(1), 50)
+        self.assertGreater(min(seen.count(0), seen.count(1)), 30, "the damage is too small or too great to try much")
 
     def test_random_bytes(self):
         for seed in range(400):
