@@ -65,6 +65,10 @@ def letters(column):
     return name
 
 
+def counted(number, what):
+    return f"{number} {what}{'' if number == 1 else 's'}"
+
+
 def shown(text):
     """A cell's text for a message: cut, in quotes, with all that is hidden or harmful written out."""
     text = text if len(text) <= 40 else text[:39] + "…"

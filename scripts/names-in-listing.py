@@ -15,7 +15,8 @@ import re
 import sys
 import unicodedata
 
-from csv_text import DELIMITERS, Refused, Unreachable, at_file, name_in, read_bytes, rows_of, say, shown
+from csv_text import DELIMITERS, Refused, Unreachable
+from csv_text import at_file, counted, name_in, read_bytes, rows_of, say, shown
 
 NUMBER = "(0|[1-9][0-9]{0,4})"
 COUNTS = ("k", "found", "events", "met")
@@ -44,7 +45,8 @@ def numbers_in(lines, row, key, count):
     line = lines[row - 1] if row <= len(lines) else ""
     said = re.fullmatch(f"{key}=" + " ".join([NUMBER] * count), line)
     if not said:
-        raise Refused(f"here must stand {key}= with {count} numbers, not {shown(line)}. Make the listing anew.", row)
+        words = f"here must stand {key}= with {counted(count, 'number')}, not {shown(line)}. Make the listing anew."
+        raise Refused(words, row)
     return [int(word) for word in said.groups()]
 
 

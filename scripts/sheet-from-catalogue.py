@@ -23,14 +23,10 @@ import unicodedata
 from collections import Counter
 
 from csv_text import DELIMITERS, Refused, Unreachable
-from csv_text import at_file, letters, name_in, read_bytes, rows_of, say, shown, trimmed
+from csv_text import at_file, counted, letters, name_in, read_bytes, rows_of, say, shown, trimmed
 
 # The sheet's own limits (README.md, 'Limits').
 MOST_PAIRS, MOST_CONTEXTS, MOST_TYPES, MOST_CODES = 64, 256, 4096, 4096
-
-
-def counted(number, what):
-    return f"{number} {what}{'' if number == 1 else 's'}"
 
 
 def no_room(what, room, row, column):

@@ -45,10 +45,14 @@ def loaded(path):
 maker, namer = loaded(MAKER), loaded(NAMER)
 
 
-def listing_of(sheet):
-    """What the program prints for the bytes of a sheet."""
+def check_program():
     if not PROGRAM.is_file():
         raise AssertionError(f"{PROGRAM} is not there: build it with `make program`")
+
+
+def listing_of(sheet):
+    """What the program prints for the bytes of a sheet."""
+    check_program()
     return subprocess.run([PROGRAM], input=sheet, capture_output=True, check=True).stdout
 
 
@@ -325,7 +329,8 @@ class Limits(Trial):
     def test_contexts(self):
         rows = [f"G {n},Bowl" for n in range(1, 258)]
         self.assertEqual(len(self.made("\n".join(rows[:256]), "--list", "--no-heads")), 256)
-        listing_of((self.folder / "out.sheet").read_bytes())
+        # there is room for the contexts (else 11), but not for all the pairs that meet in one bowl
+        self.assertEqual(listing_of((self.folder / "out.sheet").read_bytes()), b"refused=8 0\n")
         words = '"G 257"', "256 contexts"
         self.refused("\n".join(rows), "--list", "row 257, column 1 (A)", *words, options=("--no-heads",))
         table = "g,Bowl\n" + "\n".join(f"G {n},1" for n in range(1, 258))
@@ -780,6 +785,7 @@ class Examples(Trial):
     def test_page(self):
         """docs/CATALOGUES.md prints what it says; `make list` stands for the program, which is built already."""
         page = (ROOT / "docs/CATALOGUES.md").read_text(encoding="utf-8")
+        check_program()
         steps = re.findall(r"```sh\n(.*?)```\s*```text\n(.*?)```", page, re.S)
         self.assertGreater(len(steps), 2)
         self.assertEqual(len(steps), page.count("```sh\n"))
