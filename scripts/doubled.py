@@ -11,11 +11,9 @@ or wrong usage.
 """
 import re
 import sys
-from importlib import import_module
 from os.path import commonprefix
 
-lesson = import_module("by-shared")
-Fault, called = lesson.Fault, lesson.called
+from files import Fault, called, files_named, put, text_of, told
 
 MOST_BYTES = 24576
 MOST_PAIRS = 64
@@ -118,16 +116,16 @@ def doubled(contexts):
 
 def main(arguments):
     try:
-        (file,) = lesson.files_named(arguments, 1, __doc__)
-        text = lesson.text_of(file, MOST_BYTES)
+        (file,) = files_named(arguments, 1, __doc__)
+        text = text_of(file, MOST_BYTES)
         if len(text) > MOST_BYTES:
             raise Fault(1, f"{called(file)}: this is not a sheet: it has more than 24,576 bytes.")
         sheet = Sheet(file, text)
         k, contexts = heads_of(sheet)
         lines = "".join(doubled(contexts_of(sheet, contexts)))
-        lesson.put(f"k={k}\ncontexts={contexts}\n{lines}")
+        put(f"k={k}\ncontexts={contexts}\n{lines}")
     except Fault as fault:
-        return lesson.told(fault)
+        return told(fault)
     return 0
 
 

@@ -13,14 +13,13 @@ import argparse
 import os
 import re
 import sys
-import unicodedata
 
 from csv_text import DELIMITERS, Refused, Unreachable
-from csv_text import at_file, counted, name_in, read_bytes, rows_of, say, shown
+from csv_text import at_file, name_in, read_bytes, rows_of, say
+from listings import HEADS, NUMBER, NoListing, listing_in
+from shown_text import width
 
-NUMBER = "(0|[1-9][0-9]{0,4})"
-COUNTS = ("k", "found", "events", "met")
-HEADS = ("rank", "alike", "shared", "first context", "second context")
+COLUMNS = ("rank", "alike", "shared", "first context", "second context")
 
 
 def names_in(data):
@@ -40,53 +39,12 @@ def names_in(data):
     return {number: name for (kind, number), name in names.items() if kind == "context"}
 
 
-def numbers_in(lines, row, key, count):
-    """The numbers of a line of the listing, which counts from 1."""
-    line = lines[row - 1] if row <= len(lines) else ""
-    said = re.fullmatch(f"{key}=" + " ".join([NUMBER] * count), line)
-    if not said:
-        words = f"here must stand {key}= with {counted(count, 'number')}, not {shown(line)}. Make the listing anew."
-        raise Refused(words, row)
-    return [int(word) for word in said.groups()]
-
-
-def pair_in(lines, row):
-    """The numbers of a `pair=` line: both contexts, types shared, types that at least one of them has."""
-    lower, higher, shared, union = numbers_in(lines, row, "pair", 4)
-    if not (lower < higher and 1 <= shared <= union):
-        raise Refused(f"no two contexts can be like this: {shown(lines[row - 1])}. Make the listing anew.", row)
-    return lower, higher, shared, union
-
-
-def listing_in(data):
-    """The counts of a listing by their keys, and its pairs."""
-    lines = data.decode("utf-8", "replace").split("\n")
-    if lines[0].startswith("refused="):
-        raise Refused(f"the sheet was refused: {shown(lines[0])}. README.md, 'When it refuses', tells why.", 1)
-    counts = {key: numbers_in(lines, row, key, 1)[0] for row, key in enumerate(COUNTS, 1)}
-    end = len(COUNTS) + 1 + counts["found"]
-    pairs = [pair_in(lines, row) for row in range(len(COUNTS) + 1, end)]
-    if lines[end - 1 :] != [""]:
-        words = f"the listing must end with a line end behind its pairs, found={counts['found']}. Make it anew."
-        raise Refused(words, min(end, len(lines)))
-    return counts, pairs
-
-
 def percentage(shared, union):
     """For the eye, rounded half up to a tenth: all is 100.0, but what only comes near is not, nor is a little 0.0."""
     tenths = (2000 * shared + union) // (2 * union)
     if shared < union:
         tenths = min(max(tenths, 1), 999)
     return f"{tenths // 10}.{tenths % 10}"
-
-
-def width(text):
-    """How many places of a terminal's line the text takes."""
-    places = 0
-    for letter in text:
-        if unicodedata.category(letter) not in ("Mn", "Me", "Cf"):
-            places += 2 if unicodedata.east_asian_width(letter) in ("W", "F") else 1
-    return places
 
 
 def aligned(rows):
@@ -100,17 +58,25 @@ def aligned(rows):
     return lines
 
 
-def table(names, counts, pairs):
+def table(names, listing):
     """The listing in words."""
-    rows = [HEADS]
-    for rank, (lower, higher, shared, union) in enumerate(pairs, 1):
+    rows = [COLUMNS]
+    for rank, (lower, higher, shared, union) in enumerate(listing.pairs, 1):
         if not (lower in names and higher in names):
             words = f"context {higher if lower in names else lower} has no name."
-            raise Refused(f"{words} The listing and the names do not belong together.", len(COUNTS) + rank)
+            raise Refused(f"{words} The listing and the names do not belong together.", len(HEADS) + rank)
         told = f"{percentage(shared, union)}%", f"{shared} of {union}"
         rows.append((str(rank), *told, names[lower], names[higher]))
-    said = "{found} of {k} wanted pairs found; {events} places of contexts looked at, {met} pairs compared."
-    return "\n".join([said.format(**counts), *(aligned(rows) if pairs else [])]) + "\n"
+    said = (f"{listing.found} of {listing.k} wanted pairs found; {listing.events} places of contexts looked at, "
+            f"{listing.met} pairs compared.")
+    return "\n".join([said, *(aligned(rows) if listing.pairs else [])]) + "\n"
+
+
+def read_listing(file):
+    try:
+        return listing_in(read_bytes(file).decode("latin-1"))
+    except NoListing as fault:
+        raise Refused(str(fault), fault.line) from None
 
 
 def write(data):
@@ -129,8 +95,8 @@ def main(arguments):
     try:
         names = names_in(read_bytes(call.names))
         file = "the listing" if call.listing == "-" else call.listing
-        counts, pairs = listing_in(read_bytes(0 if call.listing == "-" else call.listing))
-        write(table(names, counts, pairs).encode("utf-8"))
+        listing = read_listing(0 if call.listing == "-" else call.listing)
+        write(table(names, listing).encode("utf-8"))
         return 0
     except Refused as fault:
         say(fault.told(file, "line"))

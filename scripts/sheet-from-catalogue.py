@@ -222,8 +222,7 @@ def make(call):
         write_all({sheet: sheet_text(site, kinds, call.pairs), names: names_text(site, kinds)})
     counts = counted(len(site.contexts), "context"), counted(len(kinds), "type"), counted(site.codes, "code")
     say(" ".join([f"Made {sheet} and {names}: {', '.join(counts)}.", *notes]))
-    # Make reads $ for itself, and the shell all else.
-    say("Next: make list SHEET=" + shlex.quote(sheet.replace("$", "$$")))
+    say("Next: make list SHEET=" + shlex.quote(sheet))
 
 
 def pairs_in(word):

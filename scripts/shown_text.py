@@ -26,9 +26,13 @@ def shown(text):
     return "".join(map(cell, text))
 
 
-def width(shown_text):
+def width(text):
     """How many columns of a terminal it takes."""
-    return sum(0 if unicodedata.combining(c) else 1 + (unicodedata.east_asian_width(c) in "WF") for c in shown_text)
+    columns = 0
+    for letter in text:
+        if unicodedata.category(letter) not in ("Mn", "Me", "Cf"):
+            columns += 2 if unicodedata.east_asian_width(letter) in ("W", "F") else 1
+    return columns
 
 
 def named(char):

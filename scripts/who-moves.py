@@ -13,9 +13,9 @@ Status: 0 fine; 1 not a listing, or with DOUBLED: somebody moved, or a pair has 
 2 a file cannot be read or written, or wrong usage.
 """
 import sys
-from importlib import import_module
 
-lesson = import_module("by-shared")
+from files import Fault, files_named, listing_of, put, told
+from listings import by_count
 
 
 def ranks(pairs):
@@ -38,7 +38,7 @@ def table(pairs, after):
     """The heads, and a row a pair; `after` has the ranks after doubling, or is None."""
     by_ratio = ranks(pairs)
     yield row("count", "ratio", "moved", ["doubled"] if after is not None else [], "pair", "shared", "union")
-    for count, pair in enumerate(lesson.by_count(pairs), 1):
+    for count, pair in enumerate(by_count(pairs), 1):
         ratio = by_ratio[pair[:2]]
         doubled = [after.get(pair[:2], "-")] if after is not None else []
         contexts = f"{pair.lower} {pair.higher:>3}"
@@ -88,15 +88,15 @@ def report(first, second):
 
 def main(arguments):
     try:
-        files = lesson.files_named(arguments, 2, __doc__)
-        first, second = (list(map(lesson.listing_of, files)) + [None])[:2]
+        files = files_named(arguments, 2, __doc__)
+        first, second = (list(map(listing_of, files)) + [None])[:2]
         if second and second.k != first.k:
-            raise lesson.Fault(1, f"The listings were made with k={first.k} and k={second.k}. "
+            raise Fault(1, f"The listings were made with k={first.k} and k={second.k}. "
                                   "Ask for the same number of pairs in both sheets.")
         lines, well = report(first, second)
-        lesson.put("".join(lines))
-    except lesson.Fault as fault:
-        return lesson.told(fault)
+        put("".join(lines))
+    except Fault as fault:
+        return told(fault)
     return 0 if well else 1
 
 

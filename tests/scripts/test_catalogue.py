@@ -528,8 +528,10 @@ class Files(Trial):
         self.assertEqual(os.listdir(self.folder), ["site.csv"])
 
     def test_next_command(self):
-        """What the script says to type reaches a makefile whole. (`$` has to pass through make and the shell.)"""
-        (self.folder / "Makefile").write_text('list:\n\t@printf "%s" "$$SHEET"\n')
+        """What the script says to type reaches the Makefile's commands whole, through the shell and through make."""
+        ours = (ROOT / "Makefile").read_text(encoding="utf-8").splitlines()
+        taken = [line for line in ours if line.startswith(("override SHEET", "export SHEET"))]
+        (self.folder / "Makefile").write_text("\n".join([*taken, "list:", '\t@printf "%s" "$$SHEET"', ""]))
         for name in ("plain", "with space", "Gräber", "a'b", 'a"b', "cost $HOME $(x)", "a#b", "a\\b", "$$"):
             ran = self.run_maker(name)
             self.assertEqual(ran.returncode, 0, ran.stderr)
@@ -627,7 +629,7 @@ class Listings(unittest.TestCase):
             self.assertEqual(namer.percentage(int(shared), int(union)), words, worked)
 
     def test_refusal(self):
-        self.refused("listing: line 1: the sheet was refused", '"refused=9 20"', listing="refused=9 20\n")
+        self.refused("listing: line 1: the sheet was refused", "'refused=9 20'", listing="refused=9 20\n")
         ran = self.named(listing="refused=9 20\n")
         self.assertEqual((ran.returncode, ran.stdout, ran.stderr.count(b"\n")), (1, b"", 1))
 
@@ -922,7 +924,7 @@ class Random(Trial):
             listing = listing_of((self.folder / "out.sheet").read_bytes())
             both = [(a, b) for n, (_, a) in enumerate(site) for _, b in site[n + 1 :]]
             ratios = [Fraction(len(a & b), len(a | b)) for a, b in both if a & b]
-            counts, pairs = namer.listing_in(listing)
+            pairs = namer.listing_in(listing.decode()).pairs
             self.assertEqual([Fraction(s, u) for _, _, s, u in pairs], sorted(ratios, reverse=True)[:10])
             names = namer.names_in((self.folder / "out.names.csv").read_bytes())
             self.assertEqual(names, dict(enumerate(name for name, _ in site)))
@@ -932,10 +934,10 @@ class Random(Trial):
         for seed in range(600):
             rng = random.Random(seed)
             try:
-                namer.table(names, *namer.listing_in(damaged(rng, LISTING.encode())))
-                namer.table(namer.names_in(damaged(rng, NAMES.encode())), *namer.listing_in(LISTING.encode()))
-            except namer.Refused as fault:
-                self.assertTrue(fault.words)
+                namer.table(names, namer.listing_in(damaged(rng, LISTING.encode()).decode("latin-1")))
+                namer.table(namer.names_in(damaged(rng, NAMES.encode())), namer.listing_in(LISTING))
+            except (namer.Refused, namer.NoListing) as fault:
+                self.assertTrue(str(fault))
 
 
 if __name__ == "__main__":

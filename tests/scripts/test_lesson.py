@@ -448,7 +448,7 @@ class Faults(Case):
 
     def test_endless_input(self):
         for script, _ in self.each():
-            self.refused(run(script, "/dev/zero"), 1, "/dev/zero: this is not a", "more than")
+            self.refused(run(script, "/dev/zero"), 1, "/dev/zero", "this is not a", "more than")
 
     def test_awkward_names(self):
         names = ("my own.file", 'a "quoted" $HOME', "-dash", "ქვევრი", "Gräber", "line\nend",

@@ -1,0 +1,93 @@
+"""Reads listings. The one place that knows how a listing reads, for every script that takes one."""
+import re
+from collections import namedtuple
+
+# The longest listing has fewer than 2,048 bytes.
+MOST_BYTES = 2048
+NUMBER = r"(0|[1-9][0-9]{0,4})"
+HEADS = ("k", "found", "events", "met")
+
+Pair = namedtuple("Pair", "lower higher shared union")
+Listing = namedtuple("Listing", "k found events met pairs")
+
+
+class NoListing(Exception):
+    """Why a text is not a listing, with the line where it stops being one."""
+
+    def __init__(self, words, line):
+        super().__init__(words)
+        self.line = line
+
+
+def no_listing(lines, line, why):
+    found = ascii(lines[line - 1][:40]) if line <= len(lines) else "its end"
+    return NoListing(f"this is not a listing: {why}, and here is {found}.", line)
+
+
+def pair_of(line):
+    """The pair of a `pair=` line, or None."""
+    numbers = re.fullmatch(f"pair={NUMBER} {NUMBER} {NUMBER} {NUMBER}", line)
+    pair = Pair(*map(int, numbers.groups())) if numbers else None
+    return pair if pair and pair.lower < pair.higher and 0 < pair.shared <= pair.union else None
+
+
+def ahead(one, other):
+    """Whether one pair stands before another in a listing: by ratio, then by context numbers."""
+    left, right = one.shared * other.union, other.shared * one.union
+    return left > right or (left == right and one[:2] < other[:2])
+
+
+def head_of(lines):
+    """The numbers of the first four lines."""
+    numbers = []
+    for line, key in enumerate(HEADS, 1):
+        said = re.fullmatch(f"{key}={NUMBER}", lines[line - 1]) if line <= len(lines) else None
+        if said is None:
+            raise no_listing(lines, line, f"{key}= and a number belong here")
+        numbers.append(int(said.group(1)))
+    return numbers
+
+
+def pairs_of(lines, found):
+    """The pairs behind the head, each less alike than the one before it."""
+    pairs, seen = [], set()
+    for line in range(len(HEADS) + 1, len(HEADS) + found + 1):
+        pair = pair_of(lines[line - 1]) if line <= len(lines) else None
+        if pair is None:
+            raise no_listing(lines, line, f"found={found}, so a pair belongs here: two contexts, shared, union")
+        if pair[:2] in seen:
+            raise no_listing(lines, line, "a pair stands once in it")
+        if pairs and not ahead(pairs[-1], pair):
+            raise no_listing(lines, line, "the pair before must be more alike, or come first at the same ratio")
+        seen.add(pair[:2])
+        pairs.append(pair)
+    return pairs
+
+
+def check_end(lines, found):
+    """Behind the last pair there is its line end, and then nothing."""
+    last = len(HEADS) + found
+    if lines[last:] != [""]:
+        why = "the last line must end in a line end" if last == len(lines) else f"found={found} pairs and no more"
+        raise no_listing(lines, min(last + 1, len(lines)), why)
+
+
+def listing_in(text):
+    """The listing of a text. One that has lost a line on its way is refused, since ranks would be wrong in silence."""
+    lines = text.split("\n")
+    if text.startswith("refused="):
+        raise NoListing(f"the sheet was refused, so there is no listing: {ascii(lines[0][:40])}. "
+                        "'When it refuses' in README.md says what the number means and what to do.", 1)
+    if not text or len(text) > MOST_BYTES:
+        raise NoListing(f"this is not a listing: it {'has more than 2,048 bytes' if text else 'is empty'}.", 1)
+    k, found, events, met = head_of(lines)
+    if found > k:
+        raise no_listing(lines, 2, f"at most k={k} pairs are found")
+    pairs = pairs_of(lines, found)
+    check_end(lines, found)
+    return Listing(k, found, events, met, pairs)
+
+
+def by_count(pairs):
+    """The pairs in the order of shared counts: most first, then the smaller lower context, then the smaller higher."""
+    return sorted(pairs, key=lambda pair: (-pair.shared, pair.lower, pair.higher))
