@@ -95,6 +95,11 @@ pub fn tables(contexts: &[Vec<u16>]) -> (Vec<u16>, Vec<u16>) {
     (offsets, codes)
 }
 
+/// The contexts of a site, to look at.
+pub fn slices(contexts: &[Vec<u16>]) -> Vec<&[u16]> {
+    contexts.iter().map(Vec::as_slice).collect()
+}
+
 /// A context of `size` different codes out of `pool`, rising.
 fn subset(random: &mut Random, pool: &[u16], size: usize) -> Vec<u16> {
     let mut left = pool.to_vec();
@@ -269,6 +274,12 @@ fn near_ratios(random: &mut Random) -> Contexts {
 
 /// How many kinds of large sites `large_site` knows.
 pub const LARGE_KINDS: usize = 12;
+
+/// The kind of large site that a trial has, if it has one: one trial in `every`, all kinds in turn. This goes by the
+/// trial's number alone, so that a trial is the same however many are run.
+pub fn large_kind(number: u64, every: u64) -> Option<usize> {
+    (number % every == every - 1).then(|| ((number / every) % LARGE_KINDS as u64) as usize)
+}
 
 /// A large sound site, of up to 256 contexts and 4096 codes.
 pub fn large_site(random: &mut Random, kind: usize) -> Contexts {
