@@ -7,6 +7,7 @@
 
 mod cases;
 mod choice;
+mod crash;
 mod damage;
 mod doubling;
 mod ffi;
@@ -33,7 +34,10 @@ fn run(words: &Words) -> Result<String, String> {
 }
 
 fn main() -> ExitCode {
-    let words = match Words::read(std::env::args().skip(1).collect()) {
+    // What is no text in UTF-8 names no kind and no number; a path that is none cannot be told again.
+    let words =
+        std::env::args_os().skip(1).map(|word| word.into_string().map_err(|word| format!("{word:?}: no UTF-8")));
+    let words = match words.collect::<Result<_, _>>().and_then(Words::read) {
         Ok(words) => words,
         Err(what) => {
             eprintln!("trials: {what}\n\n{}", choice::USAGE);

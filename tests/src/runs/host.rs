@@ -5,7 +5,7 @@ use crate::cases;
 use crate::damage::{accepted_sheet, damage, large_sheet, number_above_limit, shown, some_sheet};
 use crate::ffi::{self, Lent};
 use crate::random::{large_kind, seed_of, Random};
-use crate::sheet;
+use crate::sheet::{self, Listing};
 use crate::tally::Outcome;
 
 pub const KIND: Kind = Kind {
@@ -26,9 +26,10 @@ pub fn outcome(value: u64) -> u64 {
     value.saturating_sub(1_000_000)
 }
 
-/// Calls the host with junk in the buffer and compares value and bytes; gives the value and the buffer.
-pub fn call(random: &mut Random, text: &[u8], room: usize) -> Result<(u64, Vec<u8>), String> {
-    let (value, expected) = sheet::host(text, room);
+/// Calls the host with junk in the buffer and compares value and bytes with those of the listing by brute force; gives
+/// the value and the buffer.
+pub fn call(random: &mut Random, text: &[u8], listing: &Listing, room: usize) -> Result<(u64, Vec<u8>), String> {
+    let (value, expected) = sheet::host(listing, room);
     let guard = random.next() as u8;
     let mut lent_sheet = Lent::new(text, guard);
     let mut lent_text = Lent::new(&random.junk_bytes(room), guard);
@@ -52,8 +53,8 @@ pub fn call(random: &mut Random, text: &[u8], room: usize) -> Result<(u64, Vec<u
 }
 
 /// A room about the length of the listing.
-pub fn some_room(random: &mut Random, text: &[u8]) -> usize {
-    let exact = sheet::listing(text).map_or(40, |listing| listing.len());
+fn some_room(random: &mut Random, listing: &Listing) -> usize {
+    let exact = listing.as_ref().map_or(40, String::len);
     match random.below(12) {
         0 => 0,
         1..=3 => exact,
@@ -125,8 +126,9 @@ fn trial(choice: &Choice, number: u64) -> Result<Outcome, String> {
         Some(kind) => large_sheet(&mut random, kind),
         None => host_sheet(&mut random, number),
     };
-    let room = some_room(&mut random, &text);
-    let (value, _) = call(&mut random, &text, room)?;
+    let listing = sheet::listing(&text);
+    let room = some_room(&mut random, &listing);
+    let (value, _) = call(&mut random, &text, &listing, room)?;
     Ok(Some(outcome(value)))
 }
 
@@ -137,8 +139,9 @@ fn named() -> Result<u64, String> {
     for case in &cases {
         case.stated()?;
         let exact = case.printed.len();
+        let listing = sheet::listing(&case.sheet);
         for room in [exact, exact - 1, exact + 1, 5_000, 0] {
-            call(&mut random, &case.sheet, room).map_err(|what| format!("case '{}'\n{what}", case.name))?;
+            call(&mut random, &case.sheet, &listing, room).map_err(|what| format!("case '{}'\n{what}", case.name))?;
         }
     }
     Ok(cases.len() as u64)

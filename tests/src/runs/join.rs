@@ -219,24 +219,34 @@ fn named() -> Result<u64, String> {
     Ok(cases.len() as u64)
 }
 
-/// Every site of up to four contexts over three codes, with each k up to one more than the pairs it can have: once in
-/// buffers that just fit, and once with a trail that is a word short.
+/// Every site of up to four contexts over three codes.
 fn every_site() -> Result<Tally, String> {
     let mut random = Random::new(0);
     let mut tally = Tally::default();
     for contexts in all_sites() {
-        let (offsets, codes) = tables(&contexts);
-        let slices = slices(&contexts);
-        for k in 1..=(contexts.len() * contexts.len().saturating_sub(1) / 2 + 1) {
-            let room = 2 * paper::find(k, &slices).trail.len();
-            for trail in [Some(room), room.checked_sub(1)].into_iter().flatten() {
-                let tables = Tables { k: k as u16, offsets: offsets.clone(), codes: codes.clone() };
-                let trial = Trial { tables, rooms: Rooms { list: 4 * k, work: 10_240, trail }, answer: 4 };
-                tally.add(trial.run(&mut random)?);
-            }
-        }
+        every_k(&mut random, &contexts, &mut tally)?;
     }
     Ok(tally)
+}
+
+/// The site with each k up to one more than the pairs it can have: once in buffers that just fit, and once with a trail
+/// that is a word short.
+fn every_k(random: &mut Random, contexts: &[Vec<u16>], tally: &mut Tally) -> Result<(), String> {
+    let (offsets, codes) = tables(contexts);
+    let slices = slices(contexts);
+    let survey = Survey::new(&slices);
+    for k in 1..=(contexts.len() * contexts.len().saturating_sub(1) / 2 + 1) {
+        let findings = survey.find(k);
+        let room = 2 * findings.trail.len();
+        for trail in [Some(room), room.checked_sub(1)].into_iter().flatten() {
+            let tables = Tables { k: k as u16, offsets: offsets.clone(), codes: codes.clone() };
+            let trial = Trial { tables, rooms: Rooms { list: 4 * k, work: 10_240, trail }, answer: 4 };
+            let expected = paper::searched(&findings, trail);
+            trial.call(random, &expected)?;
+            tally.add(Some(expected.answer[0]));
+        }
+    }
+    Ok(())
 }
 
 /// All small tables, most of them broken.

@@ -13,6 +13,7 @@ pub mod sheets;
 
 use std::time::Instant;
 
+use crate::crash;
 use crate::spread::{guarded, spread, Difference};
 use crate::tally::{cases, told, Outcome, Tally};
 
@@ -71,10 +72,10 @@ impl Kind {
         if let Some(number) = choice.trial {
             return self.one(choice, number);
         }
-        (self.named)(choice).map_err(|what| format!("{what}\n{}", self.again(choice, "N=0", "n=0")))?;
+        self.by_name(choice)?;
         let n = choice.n.unwrap_or(self.gate);
         let start = Instant::now();
-        let tally = spread(self.name, n, choice.jobs * self.threads, |number| (self.trial)(choice, number))
+        let tally = spread(self.name, n, choice.jobs * self.threads, self.watched(choice))
             .map_err(|difference| self.differs(choice, difference))?;
         let seconds = start.elapsed().as_secs_f64();
         println!("{}, random: {} in {seconds:.1} s; {}", self.name, cases(tally.cases()), tally.words());
@@ -85,14 +86,39 @@ impl Kind {
         Ok(tally)
     }
 
+    /// The cases by name. They are repeated by a run with no random ones.
+    fn by_name(&self, choice: &Choice) -> Result<(), String> {
+        crash::now(self.command(choice, "N="), 0);
+        let agree = guarded(|_| (self.named)(choice).map(|()| None), 0);
+        crash::over();
+        agree.map_err(|difference| format!("{}\n{}", difference.what, self.again(choice, "N=0", "n=0")))?;
+        Ok(())
+    }
+
     /// One trial alone.
     fn one(&self, choice: &Choice, number: u64) -> Result<Tally, String> {
-        let outcome = guarded(|number| (self.trial)(choice, number), number)
-            .map_err(|difference| self.differs(choice, difference))?;
+        let outcome = guarded(self.watched(choice), number).map_err(|difference| self.differs(choice, difference))?;
         println!("{}: trial {number} of seed {} agrees; {}", self.name, choice.seed, told(outcome));
         let mut tally = Tally::default();
         tally.add(outcome);
         Ok(tally)
+    }
+
+    /// A trial that is named also if it crashes.
+    fn watched<'a>(&'a self, choice: &'a Choice) -> impl Fn(u64) -> Result<Outcome, String> + 'a {
+        let command = self.command(choice, "TRIAL=");
+        move |number| {
+            crash::now(command, number);
+            let outcome = (self.trial)(choice, number);
+            crash::over();
+            outcome
+        }
+    }
+
+    /// The command that repeats a crash, but for its last number. This short text is never given back, so that it
+    /// stands wherever the crash comes.
+    fn command(&self, choice: &Choice, last: &str) -> &'static str {
+        format!("make trials KIND={} SEED={} {last}", self.name, choice.seed).leak()
     }
 
     fn differs(&self, choice: &Choice, Difference { number, what }: Difference) -> String {
@@ -156,6 +182,13 @@ mod tests {
         assert!(kind(false).run(&Choice { n: Some(9), ..choice(None) }).is_ok());
         assert!(kind(false).run(&Choice { n: Some(10), ..choice(None) }).unwrap_err().contains("refused 3"));
         assert!(kind(false).run(&choice(None)).unwrap_err().contains("refused 3"));
+    }
+
+    #[test]
+    fn a_case_by_name_that_panics_differs_too() {
+        let named = Kind { named: |_| panic!("no P1"), ..kind(false) };
+        let told = "the trial panicked: no P1\nTo see it again: make trials KIND=join SEED=7 N=0";
+        assert_eq!(named.run(&choice(None)), Err(told.to_string()));
     }
 
     #[test]

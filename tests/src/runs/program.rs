@@ -158,7 +158,8 @@ fn bad_end(status: ExitStatus) -> Option<String> {
 /// One sheet: the program against the paper, and against the host call.
 fn compare(path: &str, random: &mut Random, text: &[u8], chunks: &[usize]) -> Result<u64, String> {
     let told = |what: String| format!("{what}\nsheet {}\nfed in chunks of {chunks:?}", shown(text));
-    let expected = sheet::printed(text);
+    let listing = sheet::listing(text);
+    let expected = sheet::printed(&listing);
     let ended = run_program(path, text, chunks).map_err(told)?;
     let faults = faults(expected.as_bytes(), &ended);
     if !faults.is_empty() {
@@ -166,7 +167,7 @@ fn compare(path: &str, random: &mut Random, text: &[u8], chunks: &[usize]) -> Re
     }
     let printed = ended.printed;
     // The host's buffer is as long as what is printed, so that a listing just fits.
-    let (value, buffer) = host::call(random, text, printed.len())?;
+    let (value, buffer) = host::call(random, text, &listing, printed.len())?;
     match host::outcome(value) {
         0 if buffer != printed => Err(told("program and host differ".to_string())),
         0 => Ok(0),
