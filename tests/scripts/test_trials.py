@@ -144,7 +144,12 @@ class Again(Trials):
     """The printed command repeats the difference, and the difference does not depend on the number of threads."""
 
     # A fault that no case by name has: k=3 is asked for, in a sheet of five contexts.
-    RARE = ("sheet=$(cat; echo .)", 'printf %s "${sheet%.}" | real', '[[ "$sheet" == k=3*contexts=5* ]] && exit 4', "exit 0")
+    RARE = (
+        "sheet=$(cat; echo .)",
+        'printf %s "${sheet%.}" | real',
+        '[[ "$sheet" == k=3*contexts=5* ]] && exit 4',
+        "exit 0",
+    )
 
     def told(self, path, *more):
         """The number of the trial that the command repeats, and what is said of it."""

@@ -329,7 +329,8 @@ pub fn large_site(random: &mut Random, kind: usize) -> Contexts {
             let pool = pool(random, 300);
             (0..100).map(|_| subset(random, &pool, 15)).collect()
         }
-        // Where the search goes another way: about 32, 64, 110 and 128 contexts, with some of about 48 codes and some long ones.
+        // Where the search goes another way: about 32, 64, 110 and 128 contexts, with some of about 48 codes and some
+        // long ones.
         9 | 10 => {
             let pool = pool(random, 400);
             let contexts = *random.pick(&[32, 33, 64, 65, 110, 111, 128, 129, 256]);

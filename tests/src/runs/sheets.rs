@@ -104,7 +104,8 @@ fn write(random: &mut Random, tables: &Tables, room: usize, answer_room: usize) 
     };
     compare().map_err(|what| {
         let got = format!("expected answer {:?}, got {:?}", expected.answer, lent_answer.words());
-        format!("write: {what}\n{got}\nk {k}\noffsets {offsets:?}\ncodes {codes:?}\ntext of {room} bytes, answer of {answer_room} words")
+        let rooms = format!("text of {room} bytes, answer of {answer_room} words");
+        format!("write: {what}\n{got}\nk {k}\noffsets {offsets:?}\ncodes {codes:?}\n{rooms}")
     })?;
     Ok((expected.answer, lent_text.words().to_vec()))
 }
