@@ -17,7 +17,7 @@ jobs=J   how many processors are kept busy (without it: all)";
 
 /// No run is longer than this, so that no count of trials overflows.
 const MOST: u64 = 1_000_000_000_000_000;
-const MOST_JOBS: u64 = 1_000;
+const MOST_JOBS: u64 = 256;
 
 /// What the words ask for.
 pub struct Words {

@@ -81,7 +81,8 @@ impl Kind {
         println!("{}, random: {} in {seconds:.1} s; {}", self.name, cases(tally.cases()), tally.words());
         // Few cases owe nothing.
         if n >= self.gate {
-            tally.reached(self.name, self.owed).map_err(|what| format!("{what} (seed {})", choice.seed))?;
+            let again = || self.again(choice, &format!("N={n}"), &format!("n={n}"));
+            tally.reached(self.name, self.owed).map_err(|what| format!("{what}\n{}", again()))?;
         }
         Ok(tally)
     }
@@ -181,7 +182,8 @@ mod tests {
     fn outcomes_are_owed_by_a_long_run_alone() {
         assert!(kind(false).run(&Choice { n: Some(9), ..choice(None) }).is_ok());
         assert!(kind(false).run(&Choice { n: Some(10), ..choice(None) }).unwrap_err().contains("refused 3"));
-        assert!(kind(false).run(&choice(None)).unwrap_err().contains("refused 3"));
+        let wrong = kind(false).run(&choice(None)).unwrap_err();
+        assert!(wrong.contains("refused 3") && wrong.ends_with("make trials KIND=join SEED=7 N=10"), "{wrong}");
     }
 
     #[test]
