@@ -373,7 +373,7 @@ pub struct ListingCase {
 impl ListingCase {
     /// Whether the listing by brute force is what the case states.
     pub fn stated(&self) -> Result<(), String> {
-        let given = sheet::printed(&self.sheet);
+        let given = sheet::printed(&sheet::listing(&self.sheet));
         if given == self.printed {
             Ok(())
         } else {

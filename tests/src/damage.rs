@@ -318,6 +318,20 @@ pub fn damage(random: &mut Random, sheet: &mut Vec<u8>) {
     }
 }
 
+/// A sound sheet but for one number that is above 65,535.
+pub fn number_above_limit(random: &mut Random) -> Vec<u8> {
+    let mut sheet = accepted_sheet(random);
+    let (from, length) = *random.pick(&numbers(&sheet));
+    let number = match random.below(4) {
+        0 => "65536".to_string(),
+        1 => random.between(65_537, 99_999).to_string(),
+        2 => random.pick(&["4294967297", "18446744073709551617"]).to_string(),
+        _ => "9".repeat(random.between(6, 40)),
+    };
+    sheet.splice(from..from + length, number.bytes());
+    sheet
+}
+
 /// A sheet, sound or damaged up to three times.
 pub fn some_sheet(random: &mut Random) -> Vec<u8> {
     let mut sheet = sound_sheet(random);

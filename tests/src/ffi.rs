@@ -83,12 +83,13 @@ impl<T: Copy + PartialEq + Debug> Lent<T> {
         if !held {
             return Err(format!("{name}: a word outside of the lent table has changed"));
         }
-        match (0..self.len).find(|&i| self.words()[i] != expected[i]) {
-            None => Ok(()),
-            Some(i) => {
-                Err(format!("{name}[{i}] of {}: expected {:?}, got {:?}", self.len, expected[i], self.words()[i]))
-            }
+        let words = self.words();
+        // Whole tables are compared at once, since nearly all are as expected.
+        if words == expected {
+            return Ok(());
         }
+        let i = (0..self.len).find(|&i| words[i] != expected[i]).expect("the tables differ");
+        Err(format!("{name}[{i}] of {}: expected {:?}, got {:?}", self.len, expected[i], words[i]))
     }
 }
 

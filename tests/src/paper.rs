@@ -150,33 +150,56 @@ pub struct Findings {
     pub list: Vec<Pair>,
     pub trail: Vec<Pair>,
     pub events: usize,
-    /// How many pairs share a code at all.
-    pub sharing: usize,
 }
 
-/// The findings for contexts that have passed refusals 1 to 5.
-pub fn find(k: usize, contexts: &[&[u16]]) -> Findings {
-    let mut pairs: Vec<Pair> = Vec::new();
-    for lower in 0..contexts.len() {
-        for higher in lower + 1..contexts.len() {
-            pairs.extend(pair(contexts, lower, higher));
-        }
-    }
-    let sharing = pairs.len();
-    pairs.sort_by(Pair::rank);
-    let list: Vec<Pair> = pairs.iter().copied().take(k).collect();
-    // The similarity of the k-th listed pair, if k are found.
-    let least = if list.len() == k { Some(list[k - 1].similarity()) } else { None };
-    let reaches = |ceiling: Ratio| least.map_or(true, |least| ceiling.at_least(least));
+/// All pairs of a site that share a code. They are looked for once; then the findings for each k are counted out.
+pub struct Survey<'a> {
+    contexts: &'a [&'a [u16]],
+    /// In the order of the list.
+    ranked: Vec<Pair>,
+    /// In the order of the trail.
+    trailed: Vec<Pair>,
+}
 
-    let mut events = 0;
-    for (context, codes) in contexts.iter().enumerate() {
-        events += (1..=codes.len()).filter(|&place| reaches(Event::new(contexts, context, place).ceiling)).count();
+impl<'a> Survey<'a> {
+    /// The survey of contexts that have passed refusals 1 to 5.
+    pub fn new(contexts: &'a [&'a [u16]]) -> Survey<'a> {
+        let numbers = 0..contexts.len();
+        let mut ranked: Vec<Pair> = numbers
+            .flat_map(|lower| (lower + 1..contexts.len()).filter_map(move |higher| pair(contexts, lower, higher)))
+            .collect();
+        let mut trailed = ranked.clone();
+        ranked.sort_by(Pair::rank);
+        trailed.sort_by(Pair::on_trail);
+        Survey { contexts, ranked, trailed }
     }
-    let mut trail: Vec<Pair> = pairs.into_iter().filter(|pair| reaches(pair.ceiling())).collect();
-    trail.sort_by(Pair::on_trail);
-    assert!(list.len() <= trail.len(), "no pair is more similar than its ceiling");
-    Findings { list, trail, events, sharing }
+
+    /// How many pairs share a code at all.
+    pub fn sharing(&self) -> usize {
+        self.ranked.len()
+    }
+
+    /// The findings for this k.
+    pub fn find(&self, k: usize) -> Findings {
+        let list: Vec<Pair> = self.ranked.iter().copied().take(k).collect();
+        // The similarity of the k-th listed pair, if k are found.
+        let least = if list.len() == k { Some(list[k - 1].similarity()) } else { None };
+        let reaches = |ceiling: Ratio| least.map_or(true, |least| ceiling.at_least(least));
+
+        let mut events = 0;
+        for (context, codes) in self.contexts.iter().enumerate() {
+            let places = 1..=codes.len();
+            events += places.filter(|&place| reaches(Event::new(self.contexts, context, place).ceiling)).count();
+        }
+        let trail: Vec<Pair> = self.trailed.iter().copied().filter(|pair| reaches(pair.ceiling())).collect();
+        assert!(list.len() <= trail.len(), "no pair is more similar than its ceiling");
+        Findings { list, trail, events }
+    }
+}
+
+/// The findings for one k.
+pub fn find(k: usize, contexts: &[&[u16]]) -> Findings {
+    Survey::new(contexts).find(k)
 }
 
 /// The four words of an answer.
@@ -255,9 +278,13 @@ pub fn join(k: u16, offsets: &[u16], codes: &[u16], rooms: Rooms) -> Joined {
     if rooms.work < 10_240 {
         return Joined::untouched(refuse(7, 0));
     }
-    let findings = find(usize::from(k), &contexts(offsets, codes));
+    searched(&find(usize::from(k), &contexts(offsets, codes)), rooms.trail)
+}
+
+/// The outcome of a search that has found this, with so many words of trail.
+pub fn searched(findings: &Findings, trail: usize) -> Joined {
     // An odd last word is no room.
-    if findings.trail.len() > rooms.trail / 2 {
+    if findings.trail.len() > trail / 2 {
         let zeroed = || After::Holds(Vec::new());
         return Joined { answer: refused(refuse(8, 0)), list: zeroed(), work: zeroed(), trail: zeroed() };
     }

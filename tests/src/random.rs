@@ -95,6 +95,11 @@ pub fn tables(contexts: &[Vec<u16>]) -> (Vec<u16>, Vec<u16>) {
     (offsets, codes)
 }
 
+/// The contexts of a site, to look at.
+pub fn slices(contexts: &[Vec<u16>]) -> Vec<&[u16]> {
+    contexts.iter().map(Vec::as_slice).collect()
+}
+
 /// A context of `size` different codes out of `pool`, rising.
 fn subset(random: &mut Random, pool: &[u16], size: usize) -> Vec<u16> {
     let mut left = pool.to_vec();
@@ -270,6 +275,12 @@ fn near_ratios(random: &mut Random) -> Contexts {
 /// How many kinds of large sites `large_site` knows.
 pub const LARGE_KINDS: usize = 12;
 
+/// The kind of large site that a trial has, if it has one: one trial in `every`, all kinds in turn. This goes by the
+/// trial's number alone, so that a trial is the same however many are run.
+pub fn large_kind(number: u64, every: u64) -> Option<usize> {
+    (number % every == every - 1).then(|| ((number / every) % LARGE_KINDS as u64) as usize)
+}
+
 /// A large sound site, of up to 256 contexts and 4096 codes.
 pub fn large_site(random: &mut Random, kind: usize) -> Contexts {
     match kind % LARGE_KINDS {
@@ -318,7 +329,8 @@ pub fn large_site(random: &mut Random, kind: usize) -> Contexts {
             let pool = pool(random, 300);
             (0..100).map(|_| subset(random, &pool, 15)).collect()
         }
-        // Where the search goes another way: about 32, 64, 110 and 128 contexts, with some of about 48 codes and some long ones.
+        // Where the search goes another way: about 32, 64, 110 and 128 contexts, with some of about 48 codes and some
+        // long ones.
         9 | 10 => {
             let pool = pool(random, 400);
             let contexts = *random.pick(&[32, 33, 64, 65, 110, 111, 128, 129, 256]);

@@ -228,7 +228,9 @@ pub const SHEET_LIMIT: usize = 24_576;
 pub const ROOMS: Rooms = Rooms { list: 4 * 64, work: 10_240, trail: 2 * 2_048 };
 
 /// The listing of a sheet, or its refusal.
-pub fn listing(sheet: &[u8]) -> Result<String, Refusal> {
+pub type Listing = Result<String, Refusal>;
+
+pub fn listing(sheet: &[u8]) -> Listing {
     if sheet.len() > SHEET_LIMIT {
         return Err(refuse(11, SHEET_LIMIT));
     }
@@ -247,17 +249,17 @@ pub fn listing(sheet: &[u8]) -> Result<String, Refusal> {
 }
 
 /// What the program prints.
-pub fn printed(sheet: &[u8]) -> String {
-    match listing(sheet) {
-        Ok(text) => text,
+pub fn printed(listing: &Listing) -> String {
+    match listing {
+        Ok(text) => text.clone(),
         Err(refusal) => format!("refused={} {}\n", refusal.number, refusal.place),
     }
 }
 
 /// What the host call answers, and what its byte buffer of `room` bytes then holds.
-pub fn host(sheet: &[u8], room: usize) -> (u64, Vec<u8>) {
-    let (value, mut text) = match listing(sheet) {
-        Ok(text) if text.len() <= room => (text.len() as u64, text.into_bytes()),
+pub fn host(listing: &Listing, room: usize) -> (u64, Vec<u8>) {
+    let (value, mut text) = match listing {
+        Ok(text) if text.len() <= room => (text.len() as u64, text.clone().into_bytes()),
         Ok(_) => (1_000_012, Vec::new()),
         Err(refusal) => (1_000_000 + refusal.number, Vec::new()),
     };
@@ -269,6 +271,14 @@ pub fn host(sheet: &[u8], room: usize) -> (u64, Vec<u8>) {
 mod tests {
     use super::*;
     use crate::random::Random;
+
+    fn printed(sheet: &[u8]) -> String {
+        super::printed(&listing(sheet))
+    }
+
+    fn host(sheet: &[u8], room: usize) -> (u64, Vec<u8>) {
+        super::host(&listing(sheet), room)
+    }
 
     const THREE: &[u8] = b"k=1\ncontexts=3\nc=2 3 4 5\nc=1 2 3 4 5\nc=1 2 3 4\n";
 

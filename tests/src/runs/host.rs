@@ -1,28 +1,35 @@
 //! `trials host`: the host call against the listing by brute force, every byte of the buffer.
 
-use super::{Choice, Outcomes};
+use super::{Choice, Kind};
 use crate::cases;
-use crate::damage::{accepted_sheet, damage, large_sheet, shown, some_sheet};
+use crate::damage::{accepted_sheet, damage, large_sheet, number_above_limit, shown, some_sheet};
 use crate::ffi::{self, Lent};
-use crate::random::{seed_of, Random};
-use crate::sheet;
+use crate::random::{large_kind, seed_of, Random};
+use crate::sheet::{self, Listing};
+use crate::tally::Outcome;
 
-const SMALL: u64 = 24_000;
-const LARGE: u64 = 32;
-/// Trials from this number on are of large sheets.
-const FIRST_LARGE: u64 = 1_000_000;
-
-/// Every outcome that a sheet can have. 2, 3, 6 and 7 cannot be caused by one.
-pub const OWED: &[u64] = &[0, 1, 4, 5, 8, 9, 10, 11, 12];
+pub const KIND: Kind = Kind {
+    name: "host",
+    gate: 24_032,
+    // Every outcome that a sheet can have. 2, 3, 6 and 7 cannot be caused by one.
+    owed: &[0, 1, 4, 5, 8, 9, 10, 11, 12],
+    threads: 1,
+    of_program: false,
+    named: cases_by_name,
+    trial,
+};
+/// One trial in so many is of a large sheet.
+const EVERY: u64 = 751;
 
 /// The number of the refusal that a value stands for; 0 for a text.
 pub fn outcome(value: u64) -> u64 {
     value.saturating_sub(1_000_000)
 }
 
-/// Calls the host with junk in the buffer and compares value and bytes; gives the value and the buffer.
-pub fn call(random: &mut Random, text: &[u8], room: usize) -> Result<(u64, Vec<u8>), String> {
-    let (value, expected) = sheet::host(text, room);
+/// Calls the host with junk in the buffer and compares value and bytes with those of the listing by brute force; gives
+/// the value and the buffer.
+pub fn call(random: &mut Random, text: &[u8], listing: &Listing, room: usize) -> Result<(u64, Vec<u8>), String> {
+    let (value, expected) = sheet::host(listing, room);
     let guard = random.next() as u8;
     let mut lent_sheet = Lent::new(text, guard);
     let mut lent_text = Lent::new(&random.junk_bytes(room), guard);
@@ -46,8 +53,8 @@ pub fn call(random: &mut Random, text: &[u8], room: usize) -> Result<(u64, Vec<u
 }
 
 /// A room about the length of the listing.
-pub fn some_room(random: &mut Random, text: &[u8]) -> usize {
-    let exact = sheet::listing(text).map_or(40, |listing| listing.len());
+fn some_room(random: &mut Random, listing: &Listing) -> usize {
+    let exact = listing.as_ref().map_or(40, String::len);
     match random.below(12) {
         0 => 0,
         1..=3 => exact,
@@ -60,52 +67,69 @@ pub fn some_room(random: &mut Random, text: &[u8]) -> usize {
     }
 }
 
-/// A sheet for the host call and the program: sound, damaged, or with a join that is refused.
-pub fn host_sheet(random: &mut Random) -> Vec<u8> {
-    match random.below(20) {
-        0..=8 => accepted_sheet(random),
+/// A sheet for the host call and the program: sound, damaged, or with a join that is refused. The ways to make one go
+/// round by the trial's number, so that also a short run meets every refusal.
+pub fn host_sheet(random: &mut Random, number: u64) -> Vec<u8> {
+    let round = number / 20;
+    match number % 20 {
+        0..=7 => accepted_sheet(random),
+        8 => number_above_limit(random),
         9..=12 => some_sheet(random),
         13 | 14 => {
             let mut text = accepted_sheet(random);
             damage(random, &mut text);
             text
         }
-        // k, a code above 4095, a code not above the one before it.
         15 => [random.pick(&["k=0\n", "k=65\n", "k=100\n", "k=65535\n"]).as_bytes(), b"contexts=1\nc=1 2\n"].concat(),
-        16 => {
-            format!("k=1\ncontexts=2\nc=1 2\nc={} {}\n", random.between(3, 9), random.between(4090, 4100)).into_bytes()
-        }
-        17 => format!("k=2\ncontexts=2\nc=1 2 {}\nc=0\n", random.between(0, 4)).into_bytes(),
-        // About 2048 pairs met. (64 contexts of one code make 2016 pairs, 65 make 2080.)
-        18 if random.once_in(4) => {
-            let first = if random.once_in(3) { random.between(60, 70) } else { 64 };
-            let sizes = [first, random.between(7, 8), random.between(1, 4), random.between(1, 4), random.between(1, 2)];
-            let k = random.between(1, 64);
-            cases::groups(k as u16, &sizes)
-        }
-        // Longer than the program and the host call take, or nearly so.
-        19 if random.once_in(20) => {
-            let mut text = cases::sheet_of_length(random.between(24_574, 24_580));
-            if random.once_in(2) {
-                damage(random, &mut text);
-            }
-            text
-        }
+        16 => code_about_limit(random, round % 2 == 0),
+        17 => code_not_above(random, round % 2 == 0),
+        18 if round % 4 == 0 => pairs_about_limit(random, round % 8 == 0),
+        19 if round % 10 == 0 => length_about_limit(random, round % 20 == 0),
         _ => accepted_sheet(random),
     }
 }
 
-fn trial(choice: Choice, number: u64) -> Result<u64, String> {
-    let mut random = Random::new(seed_of(choice.seed, number));
-    let text = if number < FIRST_LARGE {
-        host_sheet(&mut random)
-    } else {
-        large_sheet(&mut random, (number - FIRST_LARGE) as usize)
+/// A code of about 4095, or surely above.
+fn code_about_limit(random: &mut Random, surely: bool) -> Vec<u8> {
+    let code = random.between(if surely { 4096 } else { 4090 }, 4100);
+    format!("k=1\ncontexts=2\nc=1 2\nc={} {code}\n", random.between(3, 9)).into_bytes()
+}
+
+/// A code that may well not be above the one before it, or surely is not.
+fn code_not_above(random: &mut Random, surely: bool) -> Vec<u8> {
+    format!("k=2\ncontexts=2\nc=1 2 {}\nc=0\n", random.between(0, if surely { 2 } else { 4 })).into_bytes()
+}
+
+/// About 2048 pairs met, or surely more. (64 contexts of one code make 2016 pairs, 65 make 2080.)
+fn pairs_about_limit(random: &mut Random, surely: bool) -> Vec<u8> {
+    let first = match random.below(3) {
+        _ if surely => random.between(65, 70),
+        0 => random.between(60, 70),
+        _ => 64,
     };
-    let room = some_room(&mut random, &text);
-    let (value, _) =
-        call(&mut random, &text, room).map_err(|what| format!("{}\n{what}", choice.again("host", number)))?;
-    Ok(outcome(value))
+    let sizes = [first, random.between(7, 8), random.between(1, 4), random.between(1, 4), random.between(1, 2)];
+    cases::groups(random.between(1, 64) as u16, &sizes)
+}
+
+/// About as long as the program and the host call take, or surely longer.
+fn length_about_limit(random: &mut Random, surely: bool) -> Vec<u8> {
+    let mut text = cases::sheet_of_length(random.between(if surely { 24_577 } else { 24_574 }, 24_580));
+    if !surely && random.once_in(2) {
+        damage(random, &mut text);
+    }
+    text
+}
+
+fn trial(choice: &Choice, number: u64) -> Result<Outcome, String> {
+    let mut random = Random::new(seed_of(choice.seed, number));
+    let text = match large_kind(number, EVERY) {
+        Some(kind) => large_sheet(&mut random, kind),
+        None => host_sheet(&mut random, number),
+    };
+    let listing = sheet::listing(&text);
+    let room = some_room(&mut random, &listing);
+    let (value, _) = call(&mut random, &text, &listing, room)?;
+    Ok(Some(outcome(value)))
 }
 
 /// The listings by name, in buffers that just fit, that are a byte short, that are long, and in none.
@@ -115,22 +139,15 @@ fn named() -> Result<u64, String> {
     for case in &cases {
         case.stated()?;
         let exact = case.printed.len();
+        let listing = sheet::listing(&case.sheet);
         for room in [exact, exact - 1, exact + 1, 5_000, 0] {
-            call(&mut random, &case.sheet, room).map_err(|what| format!("case '{}'\n{what}", case.name))?;
+            call(&mut random, &case.sheet, &listing, room).map_err(|what| format!("case '{}'\n{what}", case.name))?;
         }
     }
     Ok(cases.len() as u64)
 }
 
-pub fn run(choice: Choice) -> Result<(), String> {
-    if let Some(number) = choice.trial {
-        println!("host: trial {number} agrees, outcome {}", trial(choice, number)?);
-        return Ok(());
-    }
+fn cases_by_name(_: &Choice) -> Result<(), String> {
     println!("host: {} listings by name agree", named()?);
-    let mut outcomes = Outcomes::default();
-    for number in (0..SMALL).chain(FIRST_LARGE..FIRST_LARGE + LARGE) {
-        outcomes.add(trial(choice, number)?);
-    }
-    outcomes.report("host", OWED)
+    Ok(())
 }

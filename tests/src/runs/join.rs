@@ -1,29 +1,45 @@
 //! `trials join`: the join against the paper by brute force, every word of every buffer.
 
-use super::{Choice, Outcomes};
+use super::{Choice, Kind};
 use crate::cases;
 use crate::damage::{all_sites, all_tables, break_tables, Tables};
 use crate::ffi::{self, JoinBuffers, Lent};
-use crate::paper::{self, Rooms};
-use crate::random::{large_site, seed_of, small_site, tables, Random, KINDS};
+use crate::paper::{self, Joined, Rooms, Survey};
+use crate::random::{large_kind, large_site, seed_of, slices, small_site, tables, Random, KINDS};
+use crate::tally::{Outcome, Tally};
 
-const SMALL: u64 = 30_000;
-const LARGE: u64 = 120;
-/// Trials from this number on are of large sites.
-const FIRST_LARGE: u64 = 1_000_000;
+pub const KIND: Kind = Kind {
+    name: "join",
+    gate: 30_120,
+    owed: &[0, 1, 2, 3, 4, 5, 6, 7, 8],
+    threads: 1,
+    of_program: false,
+    named: cases_by_name,
+    trial,
+};
+/// One trial in so many is of a large site.
+const EVERY: u64 = 251;
 
 /// One call of the join: its tables, the lengths of its buffers, and of its answer.
 #[derive(Clone, Debug)]
-struct Trial {
-    tables: Tables,
-    rooms: Rooms,
-    answer: usize,
+pub struct Trial {
+    pub tables: Tables,
+    pub rooms: Rooms,
+    pub answer: usize,
 }
 
 impl Trial {
-    /// Calls the join with junk in each buffer and compares all; gives the outcome.
-    fn run(&self, random: &mut Random) -> Result<u64, String> {
-        self.compare(random).map_err(|what| {
+    /// Calls the join and compares all with the paper; gives the outcome.
+    fn run(&self, random: &mut Random) -> Result<Outcome, String> {
+        let Tables { k, offsets, codes } = &self.tables;
+        let expected = paper::join(*k, offsets, codes, self.rooms);
+        self.call(random, &expected)?;
+        Ok((self.answer >= 4).then_some(expected.answer[0]))
+    }
+
+    /// Calls the join with junk in each buffer and compares all with what is expected; gives the buffers.
+    pub fn call(&self, random: &mut Random, expected: &Joined) -> Result<JoinBuffers, String> {
+        self.compare(random, expected).map_err(|what| {
             let Tables { k, offsets, codes } = &self.tables;
             format!(
                 "{what}\nk {k}\noffsets {offsets:?}\ncodes {codes:?}\n{:?}, answer of {} words",
@@ -32,9 +48,8 @@ impl Trial {
         })
     }
 
-    fn compare(&self, random: &mut Random) -> Result<u64, String> {
+    fn compare(&self, random: &mut Random, expected: &Joined) -> Result<JoinBuffers, String> {
         let Tables { k, offsets, codes } = &self.tables;
-        let expected = paper::join(*k, offsets, codes, self.rooms);
         let list = random.junk_words(self.rooms.list);
         let work = random.junk_words(self.rooms.work);
         let trail = random.junk_words(self.rooms.trail);
@@ -58,13 +73,13 @@ impl Trial {
             buffers.list.check("list", &list)?;
             buffers.work.check("work", &work)?;
             buffers.trail.check("trail", &trail)?;
-            return Ok(expected.answer[0]);
+            return Ok(buffers);
         }
         buffers.answer.check("answer", &[&expected.answer[..], &answer[4..]].concat())?;
         buffers.list.check("list", &expected.list.words(&list))?;
         buffers.work.check("work", &expected.work.words(&work))?;
         buffers.trail.check("trail", &expected.trail.words(&trail))?;
-        Ok(expected.answer[0])
+        Ok(buffers)
     }
 }
 
@@ -85,7 +100,7 @@ fn some_k(random: &mut Random, sharing: usize) -> u16 {
 }
 
 /// Rooms that are enough: exact, or longer, odd lengths too.
-fn ample_rooms(random: &mut Random, k: u16, met: usize) -> Rooms {
+pub fn ample_rooms(random: &mut Random, k: u16, met: usize) -> Rooms {
     let exact = 4 * usize::from(k);
     Rooms {
         list: match random.below(4) {
@@ -137,53 +152,56 @@ fn shorten(random: &mut Random, rooms: &mut Rooms, k: u16, met: usize) {
     }
 }
 
-/// The trial of this seed.
+/// The trial of this number.
 fn make(random: &mut Random, number: u64) -> Trial {
-    let large = number >= FIRST_LARGE;
-    let contexts = if large {
-        large_site(random, (number - FIRST_LARGE) as usize)
-    } else {
-        let kind = random.below(KINDS);
-        small_site(random, kind)
+    let large = large_kind(number, EVERY);
+    let contexts = match large {
+        Some(kind) => large_site(random, kind),
+        None => {
+            let kind = random.below(KINDS);
+            small_site(random, kind)
+        }
     };
+    let slices = slices(&contexts);
+    let survey = Survey::new(&slices);
+    let k = if large.is_some() { *random.pick(&[64, 64, 1, 10]) } else { some_k(random, survey.sharing()) };
+    let met = survey.find(usize::from(k)).trail.len();
     let (offsets, codes) = tables(&contexts);
-    let slices: Vec<&[u16]> = contexts.iter().map(Vec::as_slice).collect();
-    let k = if large {
-        *random.pick(&[64, 64, 1, 10])
-    } else {
-        let sharing = paper::find(1, &slices).sharing;
-        some_k(random, sharing)
-    };
-    let met = paper::find(usize::from(k), &slices).trail.len();
-    let mut rooms = ample_rooms(random, k, met);
-    let mut tables = Tables { k, offsets, codes };
-    if large {
-        if random.once_in(6) {
-            shorten(random, &mut rooms, k, met);
-        }
-    } else if !random.once_in(2) {
-        for _ in 0..random.between(1, 3) {
-            if random.once_in(3) {
-                shorten(random, &mut rooms, k, met);
-            } else {
-                break_tables(random, &mut tables);
-            }
-        }
+    let mut trial =
+        Trial { tables: Tables { k, offsets, codes }, rooms: ample_rooms(random, k, met), answer: answer_room(random) };
+    if large.is_none() {
+        spoil(random, &mut trial, met);
+    } else if random.once_in(6) {
+        shorten(random, &mut trial.rooms, k, met);
     }
-    let answer = match random.below(24) {
+    trial
+}
+
+fn answer_room(random: &mut Random) -> usize {
+    match random.below(24) {
         0 => random.below(4),
         1 | 2 => random.between(5, 9),
         _ => 4,
-    };
-    Trial { tables, rooms, answer }
+    }
+}
+
+/// Every other trial is broken, up to three times.
+fn spoil(random: &mut Random, trial: &mut Trial, met: usize) {
+    let k = trial.tables.k;
+    let times = if random.once_in(2) { 0 } else { random.between(1, 3) };
+    for _ in 0..times {
+        if random.once_in(3) {
+            shorten(random, &mut trial.rooms, k, met);
+        } else {
+            break_tables(random, &mut trial.tables);
+        }
+    }
 }
 
 /// Makes and runs one trial.
-fn trial(choice: Choice, number: u64) -> Result<(u64, bool), String> {
+fn trial(choice: &Choice, number: u64) -> Result<Outcome, String> {
     let mut random = Random::new(seed_of(choice.seed, number));
-    let trial = make(&mut random, number);
-    let outcome = trial.run(&mut random).map_err(|what| format!("{}\n{what}", choice.again("join", number)))?;
-    Ok((outcome, trial.answer < 4))
+    make(&mut random, number).run(&mut random)
 }
 
 /// All cases by name, each with answers of 0 to 5 words.
@@ -201,66 +219,54 @@ fn named() -> Result<u64, String> {
     Ok(cases.len() as u64)
 }
 
-/// Every site of up to four contexts over three codes, with each k up to one more than the pairs it can have: once in
-/// buffers that just fit, and once with a trail that is a word short.
-fn every_site() -> Result<Outcomes, String> {
+/// Every site of up to four contexts over three codes.
+fn every_site() -> Result<Tally, String> {
     let mut random = Random::new(0);
-    let mut outcomes = Outcomes::default();
+    let mut tally = Tally::default();
     for contexts in all_sites() {
-        let (offsets, codes) = tables(&contexts);
-        let slices: Vec<&[u16]> = contexts.iter().map(Vec::as_slice).collect();
-        for k in 1..=(contexts.len() * contexts.len().saturating_sub(1) / 2 + 1) {
-            let room = 2 * paper::find(k, &slices).trail.len();
-            for trail in [Some(room), room.checked_sub(1)].into_iter().flatten() {
-                let tables = Tables { k: k as u16, offsets: offsets.clone(), codes: codes.clone() };
-                let trial = Trial { tables, rooms: Rooms { list: 4 * k, work: 10_240, trail }, answer: 4 };
-                outcomes.add(trial.run(&mut random)?);
-            }
+        every_k(&mut random, &contexts, &mut tally)?;
+    }
+    Ok(tally)
+}
+
+/// The site with each k up to one more than the pairs it can have: once in buffers that just fit, and once with a trail
+/// that is a word short.
+fn every_k(random: &mut Random, contexts: &[Vec<u16>], tally: &mut Tally) -> Result<(), String> {
+    let (offsets, codes) = tables(contexts);
+    let slices = slices(contexts);
+    let survey = Survey::new(&slices);
+    for k in 1..=(contexts.len() * contexts.len().saturating_sub(1) / 2 + 1) {
+        let findings = survey.find(k);
+        let room = 2 * findings.trail.len();
+        for trail in [Some(room), room.checked_sub(1)].into_iter().flatten() {
+            let tables = Tables { k: k as u16, offsets: offsets.clone(), codes: codes.clone() };
+            let trial = Trial { tables, rooms: Rooms { list: 4 * k, work: 10_240, trail }, answer: 4 };
+            let expected = paper::searched(&findings, trail);
+            trial.call(random, &expected)?;
+            tally.add(Some(expected.answer[0]));
         }
     }
-    Ok(outcomes)
+    Ok(())
 }
 
 /// All small tables, most of them broken.
-fn every_table() -> Result<Outcomes, String> {
+fn every_table() -> Result<Tally, String> {
     let mut random = Random::new(0);
-    let mut outcomes = Outcomes::default();
+    let mut tally = Tally::default();
     for (offsets, codes) in all_tables() {
         let trial = Trial {
             tables: Tables { k: 1, offsets, codes },
             rooms: Rooms { list: 4, work: 10_240, trail: 8 },
             answer: 4,
         };
-        outcomes.add(trial.run(&mut random)?);
+        tally.add(trial.run(&mut random)?);
     }
-    Ok(outcomes)
+    Ok(tally)
 }
 
-pub fn run(choice: Choice) -> Result<(), String> {
-    if let Some(number) = choice.trial {
-        let (outcome, _) = trial(choice, number)?;
-        println!("join: trial {number} agrees, outcome {outcome}");
-        return Ok(());
-    }
+/// The cases by name, and those that are counted out.
+fn cases_by_name(_: &Choice) -> Result<(), String> {
     println!("join: {} cases by name agree", named()?);
     every_site()?.report("join, every site of four contexts over three codes", &[0, 8])?;
-    every_table()?.report("join, every small table", &[0, 2, 3, 4, 5])?;
-    let (mut outcomes, mut large, mut short) = (Outcomes::default(), Outcomes::default(), 0);
-    for number in 0..SMALL {
-        let (outcome, nothing_done) = trial(choice, number)?;
-        if nothing_done {
-            short += 1
-        } else {
-            outcomes.add(outcome)
-        }
-    }
-    println!("join: {short} calls with an answer of fewer than 4 words did nothing");
-    outcomes.report("join, small sites", &[0, 1, 2, 3, 4, 5, 6, 7, 8])?;
-    for number in FIRST_LARGE..FIRST_LARGE + LARGE {
-        let (outcome, nothing_done) = trial(choice, number)?;
-        if !nothing_done {
-            large.add(outcome);
-        }
-    }
-    large.report("join, large sites", &[0])
+    every_table()?.report("join, every small table", &[0, 2, 3, 4, 5])
 }

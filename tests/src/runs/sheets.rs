@@ -1,17 +1,34 @@
-//! `trials sheets`: the reader and the writer against their definitions, and both round trips.
+//! `trials read` and `trials write`, or both as `trials sheets`: the reader and the writer against their definitions,
+//! and both round trips.
 
-use super::{Choice, Outcomes};
+use super::{Choice, Kind};
 use crate::cases;
 use crate::damage::{all_tables, break_tables, damage, shown, some_sheet, sound_sheet, Tables};
 use crate::ffi::{self, Lent};
 use crate::paper::{self, Answer};
 use crate::random::{large_site, seed_of, small_site, tables, Random, KINDS, LARGE_KINDS};
 use crate::sheet;
+use crate::tally::{Outcome, Tally};
 
-const READS: u64 = 80_000;
-const WRITES: u64 = 20_000;
-/// Trials from this number on are of the writer.
-const FIRST_WRITE: u64 = 1_000_000;
+pub const READ: Kind = Kind {
+    name: "read",
+    gate: 80_000,
+    owed: &[0, 9, 10, 11],
+    threads: 1,
+    of_program: false,
+    named: readings_by_name,
+    trial: |choice, number| read_trial(&mut Random::new(seed_of(choice.seed, number))),
+};
+
+pub const WRITE: Kind = Kind {
+    name: "write",
+    gate: 20_000,
+    owed: &[0, 1, 2, 3, 4, 5, 12],
+    threads: 1,
+    of_program: false,
+    named: writings_by_name,
+    trial: |choice, number| write_trial(&mut Random::new(seed_of(choice.seed, number))),
+};
 
 /// What a call has done, once it is found to be right.
 struct Read {
@@ -87,7 +104,8 @@ fn write(random: &mut Random, tables: &Tables, room: usize, answer_room: usize) 
     };
     compare().map_err(|what| {
         let got = format!("expected answer {:?}, got {:?}", expected.answer, lent_answer.words());
-        format!("write: {what}\n{got}\nk {k}\noffsets {offsets:?}\ncodes {codes:?}\ntext of {room} bytes, answer of {answer_room} words")
+        let rooms = format!("text of {room} bytes, answer of {answer_room} words");
+        format!("write: {what}\n{got}\nk {k}\noffsets {offsets:?}\ncodes {codes:?}\n{rooms}")
     })?;
     Ok((expected.answer, lent_text.words().to_vec()))
 }
@@ -114,9 +132,6 @@ fn some_answer_room(random: &mut Random) -> usize {
         _ => 4,
     }
 }
-
-/// The outcome of a trial, or none if its answer had no room.
-type Outcome = Option<u64>;
 
 /// A sheet read; and if the tables are sound, written back byte for byte into a text that just fits.
 fn read_trial(random: &mut Random) -> Result<Outcome, String> {
@@ -207,7 +222,7 @@ fn write_trial(random: &mut Random) -> Result<Outcome, String> {
 }
 
 /// The worked examples by name: with exactly the words they speak of, and the place they state.
-fn named() -> Result<u64, String> {
+fn named_readings() -> Result<u64, String> {
     let mut random = Random::new(0);
     let cases = cases::readings();
     for case in &cases {
@@ -217,7 +232,12 @@ fn named() -> Result<u64, String> {
                 .map_err(|what| format!("case '{}'\n{what}", case.name))?;
         }
     }
-    // The shortest sheet has 15 bytes; a text as long as the room is accepted.
+    Ok(cases.len() as u64)
+}
+
+/// The shortest sheet has 15 bytes; a text as long as the room is accepted.
+fn shortest_writing() -> Result<(), String> {
+    let mut random = Random::new(0);
     let shortest = Tables { k: 1, offsets: vec![0], codes: Vec::new() };
     for (room, answer) in [(15, [0, 15, 0, 0]), (16, [0, 15, 0, 0]), (14, [12, 0, 0, 0]), (0, [12, 0, 0, 0])] {
         let (done, _) = write(&mut random, &shortest, room, 4).map_err(|what| format!("case 'N23'\n{what}"))?;
@@ -225,9 +245,15 @@ fn named() -> Result<u64, String> {
             return Err(format!("the shortest sheet in {room} bytes: {answer:?} is stated, {done:?} is found"));
         }
     }
-    // The joins by name are written too: their tables are refused with 1 to 5 or become a text.
-    for case in cases::joins() {
-        let tables = Tables { k: case.k, offsets: case.offsets, codes: case.codes };
+    Ok(())
+}
+
+/// The joins by name are written too: their tables are refused with 1 to 5 or become a text.
+fn named_writings() -> Result<u64, String> {
+    let mut random = Random::new(0);
+    let cases = cases::joins();
+    for case in &cases {
+        let tables = Tables { k: case.k, offsets: case.offsets.clone(), codes: case.codes.clone() };
         for room in [0, 15, 48, 25_200] {
             write(&mut random, &tables, room, 4).map_err(|what| format!("case '{}'\n{what}", case.name))?;
         }
@@ -237,9 +263,9 @@ fn named() -> Result<u64, String> {
 
 /// Small sheets damaged in every way at every byte: cut there, the byte lost, doubled, swapped, and each other byte in
 /// its place or before it.
-fn every_byte() -> Result<Outcomes, String> {
+fn every_byte() -> Result<Tally, String> {
     let mut random = Random::new(0);
-    let mut outcomes = Outcomes::default();
+    let mut tally = Tally::default();
     let sheets: [(&[u8], usize, usize); 5] = [
         (b"k=1\ncontexts=3\nc=2 3 4 5\nc=1 2 3 4 5\nc=1 2 3 4\n", 4, 13),
         (b"k=64\ncontexts=2\nc=\nc=0 65535\n", 3, 2),
@@ -267,17 +293,17 @@ fn every_byte() -> Result<Outcomes, String> {
             }
         }
         for text in texts {
-            outcomes.add(read(&mut random, &text, offsets, codes, 4)?.answer[0]);
+            tally.add(Some(read(&mut random, &text, offsets, codes, 4)?.answer[0]));
         }
     }
-    Ok(outcomes)
+    Ok(tally)
 }
 
 /// Every ending of up to four bytes of a small alphabet behind some beginnings of sheets, with tables that just fit and
 /// with tables that are short.
-fn every_ending() -> Result<Outcomes, String> {
+fn every_ending() -> Result<Tally, String> {
     let mut random = Random::new(0);
-    let mut outcomes = Outcomes::default();
+    let mut tally = Tally::default();
     let beginnings: [&[u8]; 10] = [
         b"",
         b"k=",
@@ -295,7 +321,7 @@ fn every_ending() -> Result<Outcomes, String> {
         for _ in 0..=4 {
             for text in &texts {
                 for (offsets, codes) in [(257, 4), (3, 1)] {
-                    outcomes.add(read(&mut random, text, offsets, codes, 4)?.answer[0]);
+                    tally.add(Some(read(&mut random, text, offsets, codes, 4)?.answer[0]));
                 }
             }
             texts = texts
@@ -304,22 +330,22 @@ fn every_ending() -> Result<Outcomes, String> {
                 .collect();
         }
     }
-    Ok(outcomes)
+    Ok(tally)
 }
 
 /// All small tables, broken or not, written with a text that has ample room.
-fn every_table() -> Result<Outcomes, String> {
+fn every_table() -> Result<Tally, String> {
     let mut random = Random::new(0);
-    let mut outcomes = Outcomes::default();
+    let mut tally = Tally::default();
     for (offsets, codes) in all_tables() {
-        outcomes.add(write(&mut random, &Tables { k: 1, offsets, codes }, 60, 4)?.0[0]);
+        tally.add(Some(write(&mut random, &Tables { k: 1, offsets, codes }, 60, 4)?.0[0]));
     }
-    Ok(outcomes)
+    Ok(tally)
 }
 
 /// Sheets about the limits of the lent tables and of the paper, cut and damaged.
-fn large_reads(random: &mut Random) -> Result<Outcomes, String> {
-    let mut outcomes = Outcomes::default();
+fn large_reads(random: &mut Random) -> Result<Tally, String> {
+    let mut tally = Tally::default();
     for length in [21_009, 21_010, 24_576, 24_577, 25_105] {
         for _ in 0..20 {
             let mut text = cases::sheet_of_length(length);
@@ -327,49 +353,30 @@ fn large_reads(random: &mut Random) -> Result<Outcomes, String> {
                 damage(random, &mut text);
             }
             let (offsets, codes) = (*random.pick(&[256, 257, 258]), *random.pick(&[4095, 4096, 4097]));
-            outcomes.add(read(random, &text, offsets, codes, 4)?.answer[0]);
+            tally.add(Some(read(random, &text, offsets, codes, 4)?.answer[0]));
         }
     }
     for _ in 0..100 {
         let text = sound_sheet(random);
         for _ in 0..10 {
             let cut = random.below(text.len() + 1);
-            outcomes.add(read(random, &text[..cut], 257, 4096, 4)?.answer[0]);
+            tally.add(Some(read(random, &text[..cut], 257, 4096, 4)?.answer[0]));
         }
     }
-    Ok(outcomes)
+    Ok(tally)
 }
 
-fn trial(choice: Choice, number: u64) -> Result<Outcome, String> {
-    let mut random = Random::new(seed_of(choice.seed, number));
-    let outcome = if number < FIRST_WRITE { read_trial(&mut random) } else { write_trial(&mut random) };
-    outcome.map_err(|what| format!("{}\n{what}", choice.again("sheets", number)))
-}
-
-pub fn run(choice: Choice) -> Result<(), String> {
-    if let Some(number) = choice.trial {
-        println!("sheets: trial {number} agrees, outcome {:?}", trial(choice, number)?);
-        return Ok(());
-    }
-    println!("sheets: {} readings by name agree", named()?);
+/// The readings by name, and those that are counted out.
+fn readings_by_name(choice: &Choice) -> Result<(), String> {
+    println!("read: {} readings by name agree", named_readings()?);
     every_byte()?.report("read, every byte of five sheets damaged", &[0, 9, 10, 11])?;
     every_ending()?.report("read, every ending of ten beginnings", &[0, 9, 10, 11])?;
-    every_table()?.report("write, every small table", &[0, 2, 3, 4, 5])?;
-    large_reads(&mut Random::new(choice.seed))?.report("read, large sheets", &[0, 9, 11])?;
-    let (mut reads, mut writes, mut short) = (Outcomes::default(), Outcomes::default(), 0);
-    for number in 0..READS {
-        match trial(choice, number)? {
-            Some(outcome) => reads.add(outcome),
-            None => short += 1,
-        }
-    }
-    for number in FIRST_WRITE..FIRST_WRITE + WRITES {
-        match trial(choice, number)? {
-            Some(outcome) => writes.add(outcome),
-            None => short += 1,
-        }
-    }
-    println!("sheets: {short} calls with an answer of fewer than 4 words did nothing");
-    reads.report("read", &[0, 9, 10, 11])?;
-    writes.report("write", &[0, 1, 2, 3, 4, 5, 12])
+    large_reads(&mut Random::new(choice.seed))?.report("read, large sheets", &[0, 9, 11])
+}
+
+/// The writings by name, and those that are counted out.
+fn writings_by_name(_: &Choice) -> Result<(), String> {
+    shortest_writing()?;
+    println!("write: {} tables by name agree", named_writings()?);
+    every_table()?.report("write, every small table", &[0, 2, 3, 4, 5])
 }

@@ -1,0 +1,242 @@
+#!/usr/bin/env python3
+"""Tries the trials themselves: whether they notice a program that is wrong, and say how to see it again.
+
+    python3 tests/scripts/test_trials.py
+
+Each wrong program is a small script that runs the real one and then does one thing that it should not. The trials must
+fail on it, in words that say which. It needs target/bin/sazamkhri and the static libraries, as `make test` builds them.
+"""
+import os
+import re
+import shlex
+import subprocess
+import sys
+import tempfile
+import unittest
+from pathlib import Path
+
+ROOT = Path(__file__).resolve().parents[2]
+PROGRAM = ROOT / "target" / "bin" / "sazamkhri"
+TRIALS = ROOT / "target" / "trials" / "release" / "trials"
+LIBRARIES = ROOT / "target" / "staticlib"
+
+# The last line of a run without a difference.
+LAST = re.compile(r"trials: (\d+) cases?, no difference; accepted (\d+), refused (none|\d+: \d+(?:, \d+: \d+)*)"
+                  r"(?:, nothing done (\d+))?")
+
+
+def build():
+    """Builds the trials; gives what is wrong, or None."""
+    for needed in (PROGRAM, LIBRARIES / "libprobe.a", LIBRARIES / "libhost.a"):
+        if not needed.is_file():
+            return f"{needed} is not there. Build it first: make program libraries"
+    places = {"CARGO_TARGET_DIR": str(ROOT / "target" / "trials"), "SAZAMKHRI_LIB": str(LIBRARIES)}
+    command = ["cargo", "build", "--release", "--quiet", "--offline"]
+    done = subprocess.run(command, cwd=ROOT / "tests", env={**os.environ, **places}, capture_output=True, text=True)
+    return None if done.returncode == 0 else f"the trials do not build:\n{done.stderr}"
+
+
+def trials(*words):
+    """Runs the trials as the Makefile does; gives exit status, standard output and standard error."""
+    done = subprocess.run([str(TRIALS), *map(str, words)], cwd=ROOT, capture_output=True, text=True, timeout=300)
+    return done.returncode, done.stdout, done.stderr
+
+
+def counts(output):
+    """The number of cases that the last line tells, and the sum of its counts."""
+    last = output.splitlines()[-1]
+    told = LAST.fullmatch(last)
+    if not told:
+        raise AssertionError(f"the last line tells no counts: {last}")
+    cases, accepted, refused, nothing = told.groups()
+    each = [] if refused == "none" else [int(part.split(": ")[1]) for part in refused.split(", ")]
+    return int(cases), int(accepted) + sum(each) + int(nothing or 0)
+
+
+class Trials(unittest.TestCase):
+    """What all tests need: the trials, and a folder whose name no script may trip over."""
+
+    @classmethod
+    def setUpClass(cls):
+        wrong = build()
+        if wrong:
+            raise AssertionError(wrong)
+        cls.folder = tempfile.TemporaryDirectory(prefix="it's $HOME \"საფლავი\" ")
+
+    @classmethod
+    def tearDownClass(cls):
+        cls.folder.cleanup()
+
+    def wrapper(self, name, *lines):
+        """A program that is this shell script; `real` runs the real one on the sheet."""
+        path = Path(self.folder.name) / name
+        real = f"real() {{ {shlex.quote(str(PROGRAM))}; }}"
+        path.write_text("\n".join(["#!/bin/bash", real, *lines, ""]), encoding="utf-8")
+        path.chmod(0o755)
+        return path
+
+    def fails(self, path, words, *more):
+        """The trials must fail on this program with these words; gives all that they print."""
+        status, output, errors = trials("program", path, *more)
+        self.assertEqual(status, 1, output + errors)
+        self.assertIn("trials: FAILED", output)
+        self.assertIn(words, output)
+        self.assertNotIn("no difference", output)
+        return output
+
+
+class WrongPrograms(Trials):
+    """A program that is wrong in one way is found, and the way is said."""
+
+    def test_a_wrapper_that_does_no_harm_passes(self):
+        status, output, errors = trials("program", self.wrapper("faithful", "real"), "n=40")
+        self.assertEqual((status, errors), (0, ""), output)
+        self.assertEqual(counts(output), (40, 40))
+
+    def test_another_exit_status(self):
+        output = self.fails(self.wrapper("status", "real", "exit 3"), "ended with exit status 3, and not with 0")
+        self.assertNotIn("the program printed", output)
+
+    def test_killed_behind_the_right_text(self):
+        for number, name in ((9, "KILL"), (6, "ABRT"), (11, "SEGV")):
+            path = self.wrapper("killed " + name, "ulimit -c 0", "real", f"kill -{name} $$")
+            output = self.fails(path, f"ended by signal {number}, and not by itself")
+            self.assertNotIn("the program printed", output)
+
+    def test_words_on_standard_error(self):
+        output = self.fails(self.wrapper("errors", "real", "echo warm >&2"), r'wrote to standard error: b"warm\n"')
+        self.assertNotIn("exit status", output)
+
+    def test_many_words_on_standard_error(self):
+        lines = ("head -c 300000 /dev/zero >&2", "real")
+        self.fails(self.wrapper("many errors", *lines), r"wrote to standard error: b")
+
+    def test_a_byte_more(self):
+        self.fails(self.wrapper("more", "real", "printf x"), "printed the right text and 1 more behind it")
+
+    def test_a_byte_less(self):
+        whole = (ROOT / "examples" / "three.listing").stat().st_size
+        self.fails(self.wrapper("less", "real | head -c -1"), f"printed only {whole - 1} of {whole} bytes")
+
+    def test_nothing_printed(self):
+        self.fails(self.wrapper("nothing", "cat > /dev/null"), "the program printed nothing")
+        self.fails(self.wrapper("nothing read", "exit 0"), "the program printed nothing")
+
+    def test_another_text(self):
+        self.fails(self.wrapper("other", "real | tr 1 2"), "the program printed another text")
+
+    def test_all_faults_are_told(self):
+        output = self.fails(self.wrapper("worst", "echo oh >&2", "exit 5"), "the program printed nothing")
+        self.assertIn("wrote to standard error", output)
+        self.assertIn("exit status 5", output)
+
+    def test_a_program_that_does_not_start(self):
+        missing = Path(self.folder.name) / "missing"
+        self.fails(missing, "does not start")
+
+    def test_a_case_by_name_is_repeated_by_the_command(self):
+        path = self.wrapper("named", "real", "exit 3")
+        output = self.fails(path, "To see it again: make trials KIND=program SEED=5 N=0", "seed=5")
+        self.assertIn("case 'Three'", output)
+
+
+class Again(Trials):
+    """The printed command repeats the difference, and the difference does not depend on the number of threads."""
+
+    # A fault that no case by name has: k=3 is asked for, in a sheet of five contexts.
+    RARE = (
+        "sheet=$(cat; echo .)",
+        'printf %s "${sheet%.}" | real',
+        '[[ "$sheet" == k=3*contexts=5* ]] && exit 4',
+        "exit 0",
+    )
+
+    def told(self, path, *more):
+        """The number of the trial that the command repeats, and what is said of it."""
+        output = self.fails(path, "ended with exit status 4", "seed=7", *more)
+        command = re.search(r"^To see it again: make trials KIND=program SEED=7 TRIAL=(\d+)$", output, re.MULTILINE)
+        self.assertIsNotNone(command, output)
+        return int(command.group(1)), output[output.index("program: trial "):]
+
+    def test_the_command_repeats_the_difference(self):
+        path = self.wrapper("rare", *self.RARE)
+        number, what = self.told(path, "n=100000")
+        self.assertEqual(self.told(path, f"trial={number}"), (number, what))
+        # The first difference is told, whatever the number of threads: the same run up to it finds none.
+        self.assertEqual(self.told(path, "n=100000", "jobs=1"), (number, what))
+        status, output, _ = trials("program", path, "seed=7", f"n={number}")
+        self.assertEqual((status, counts(output)), (0, (number, number)), output)
+
+    def test_the_command_for_another_program_can_be_typed(self):
+        path = self.wrapper("rare too", *self.RARE)
+        _, what = self.told(path, "n=100000")
+        command = re.search(r"^or, with this other program: (.*)$", what, re.MULTILINE).group(1)
+        done = subprocess.run(["bash", "-c", command], cwd=ROOT, capture_output=True, text=True, timeout=60)
+        self.assertEqual(done.returncode, 1)
+        self.assertTrue(done.stdout.endswith(what), done.stdout)
+
+
+class Counts(Trials):
+    """The last line counts everything, and the same with any number of threads."""
+
+    def test_all_kinds_are_counted_in_the_last_line(self):
+        status, output, errors = trials("all", f"path={PROGRAM}", "n=30", "seed=3")
+        self.assertEqual((status, errors), (0, ""), output)
+        self.assertEqual(counts(output), (180, 180))
+        for kind in ("join", "read", "write", "doubled", "host", "program"):
+            self.assertRegex(output, rf"(?m)^{kind}, random: 30 cases ")
+            self.assertRegex(output, rf"(?m)^{kind}: \d+ \w+ by name ")
+
+    def test_threads_do_not_matter(self):
+        last = {trials("host", "n=5000", "seed=3", f"jobs={jobs}")[1].splitlines()[-1] for jobs in (1, 2, 7)}
+        self.assertEqual(len(last), 1)
+        self.assertEqual(counts(last.pop()), (5000, 5000))
+
+    def test_a_trial_is_what_the_run_has_under_its_number(self):
+        """The counts of a run are those of its trials, run one by one."""
+        each = [trials("host", "seed=3", f"trial={number}")[1].splitlines()[0] for number in range(40)]
+        accepted = sum(line.endswith("agrees; accepted") for line in each)
+        refused = sum(re.search(r"agrees; refused \d+$", line) is not None for line in each)
+        self.assertEqual(accepted + refused, 40)
+        run = trials("host", "seed=3", "n=40")[1].splitlines()[-1]
+        self.assertIn(f"accepted {accepted},", run)
+
+    def test_another_seed_has_other_trials(self):
+        self.assertNotEqual(trials("host", "n=2000", "seed=3")[1].splitlines()[-1],
+                            trials("host", "n=2000", "seed=4")[1].splitlines()[-1])
+
+
+class Words(Trials):
+    """Words that cannot be meant are refused with exit status 2, with nothing run and the use shown."""
+
+    def test_words_that_cannot_be_meant(self):
+        for words, told in (
+            ((), "which kind"),
+            (("joins",), "joins: there is no such kind"),
+            (("join", "n=1,000"), "n=1,000: write a whole number"),
+            (("join", "n=-1"), "n=-1: write a whole number"),
+            (("join", "n=+1"), "n=+1: write a whole number"),
+            (("join", "n=99999999999999999999"), "write a whole number"),
+            (("join", "seed=x"), "seed=x: write a whole number"),
+            (("join", "jobs=0"), "jobs=0: write a whole number"),
+            (("join", "a", "b"), "b: one word too many"),
+            (("program",), "which program?"),
+            (("all", "n=1"), "which program?"),
+            (("sheets", "trial=4"), "say one of read, write"),
+        ):
+            status, output, errors = trials(*words)
+            self.assertEqual((status, output), (2, ""), words)
+            self.assertIn(told, errors)
+            self.assertIn("use: trials KIND", errors)
+
+    def test_every_kind_takes_a_path_and_empty_words(self):
+        status, output, errors = trials("host", f"path={PROGRAM}", "n=5", "seed=", "trial=")
+        self.assertEqual((status, errors, counts(output)), (0, "", (5, 5)), output)
+
+
+def main(words):
+    return not unittest.main(argv=[sys.argv[0], *words], exit=False).result.wasSuccessful()
+
+
+if __name__ == "__main__":
+    sys.exit(main(sys.argv[1:]))
