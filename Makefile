@@ -2,19 +2,15 @@
 SHELL := /bin/bash
 .DEFAULT_GOAL := help
 .SILENT:
-.PHONY: help list program host install uninstall test trials bench libraries clean
+.PHONY: help list program host install uninstall test trials bench clean
 
 # A file's name is taken as it is typed, also with spaces, quotes and `$`.
 override SHEET := $(value SHEET)
-override PREFIX := $(or $(value PREFIX),/usr/local)
+PREFIX ?= /usr/local
+override PREFIX := $(value PREFIX)
 override DESTDIR := $(value DESTDIR)
 export SHEET PREFIX DESTDIR
-N ?= 100000
-SEED ?= 1
-KIND ?= all
-
 BUILD := scripts/build.py
-LIBS := $(CURDIR)/target/staticlib
 
 #: make list SHEET=FILE       list a sheet: the most alike pairs, or in words why it is refused
 list:
@@ -43,17 +39,15 @@ uninstall:
 test:
 	scripts/test.sh
 
-#: make trials N=.. SEED=..   that many random cases of each kind against an independent program
-trials: libraries program
-	scripts/trials.sh $(KIND) path="$(CURDIR)/target/bin/sazamkhri" n=$(N) seed=$(SEED) $(if $(TRIAL),trial=$(TRIAL))
+#: make trials N=.. SEED=..   that many random cases of each kind against an independent program (tests/README.md)
+trials:
+	$(BUILD) program host probe
+	scripts/trials.sh $(or $(KIND),all) path="$$PWD/target/bin/sazamkhri" n=$(N) seed=$(SEED) trial=$(TRIAL) jobs=$(JOBS)
 
 #: make bench                 time it beside plain Rust
-bench: libraries
-	cd bench && CARGO_TARGET_DIR=../target/bench SAZAMKHRI_LIB="$(LIBS)" cargo run --release --quiet --offline
-
-# The static libraries for C and for Rust.
-libraries:
+bench:
 	$(BUILD) host probe
+	cd bench && CARGO_TARGET_DIR=../target/bench SAZAMKHRI_LIB="$$PWD/../target/staticlib" cargo run --release --quiet --offline
 
 #: make clean                 remove all that was built
 clean:

@@ -1,6 +1,6 @@
 #!/usr/bin/env bash
 # Builds the C programs of host/ over libsazamkhri.a, plain and with the sanitizers, into target/host.
-# The library itself comes first: rt staticlib host.
+# The library itself comes first: scripts/build.py host.
 # PROGRAMS and KINDS say which are built, if not all: list_sheet check, and plain san.
 set -eu -o pipefail
 cd "$(dirname "$0")/.."

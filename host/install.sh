@@ -4,7 +4,7 @@
 #     [PREFIX=/usr/local] [DESTDIR=] host/install.sh [--remove]
 #
 # PREFIX is where the files will be used, DESTDIR a folder in which that place is built first, for packagers. Both
-# are absolute. The library comes first: make libraries.
+# are absolute. The library comes first: scripts/build.py host.
 set -eu -o pipefail
 # PREFIX is text to be taken apart byte by byte, and the files are for everybody.
 export LC_ALL=C

@@ -1,6 +1,6 @@
 #!/usr/bin/env bash
 # Gives the host's library the name that C programs link with: target/lib/libsazamkhri.a.
-# The library itself comes first: rt staticlib host.
+# The library itself comes first: scripts/build.py host.
 set -eu -o pipefail
 cd "$(dirname "$0")/.."
 made=target/staticlib/libhost.a

@@ -3,8 +3,8 @@
 #
 #     host/try.sh
 #
-# Exits with 1 if a mistake goes unnoticed, or if a check refuses the copy as it is. The library comes first: make
-# libraries.
+# Exits with 1 if a mistake goes unnoticed, or if a check refuses the copy as it is. The library comes first:
+# scripts/build.py host.
 set -eu -o pipefail
 cd "$(dirname "$0")/.."
 host/library.sh

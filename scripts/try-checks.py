@@ -136,7 +136,7 @@ def main(arguments):
     wrong = tried = 0
     with tempfile.TemporaryDirectory() as place:
         copy = Path(place)
-        for part in ("crates", "docs", "tests", "scripts", "examples", "host"):
+        for part in ("crates", "docs", "tests", "scripts", "examples", "host", "bench", ".ci"):
             shutil.copytree(root / part, copy / part, ignore=shutil.ignore_patterns("target"))
         for page in ("README.md", "CONTRIBUTING.md", "CHANGELOG.md", "Makefile"):
             shutil.copy(root / page, copy / page)
