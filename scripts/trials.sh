@@ -3,6 +3,9 @@
 #
 #     scripts/trials.sh KIND [WORDS]..       tests/README.md says which
 set -eu -o pipefail
-cd "$(dirname "$0")/../tests"
-export CARGO_TARGET_DIR=../target/trials SAZAMKHRI_LIB="$PWD/../target/staticlib"
-exec cargo run --release --quiet --offline -- "$@"
+root=$(cd "$(dirname "$0")/.." && pwd)
+(
+    cd "$root/tests"
+    CARGO_TARGET_DIR=../target/trials SAZAMKHRI_LIB="$root/target/staticlib" cargo build --release --quiet --offline
+)
+exec "$root/target/trials/release/trials" "$@"

@@ -353,11 +353,12 @@ pub fn readings() -> Vec<ReadCase> {
     lent("N16 4097 codes", &of_codes(4097), 257, 4096, no(11, 17 + 2 * 4096));
     lent("N16 4097 codes, more lent", &of_codes(4097), 257, 5000, no(11, 17 + 2 * 4096));
 
-    let longest = sheet_of_length(25_105);
-    lent("N17 25,105 bytes", &longest, 257, 4096, yes(1, 256, 4096));
-    let longest = [b"k=65535\n", &longest[4..]].concat();
-    assert_eq!(longest.len(), 25_109);
-    lent("N17 25,109 bytes", &longest, 257, 4096, yes(65_535, 256, 4096));
+    let even = sheet_of_length(25_105);
+    lent("N17 25,105 bytes", &even, 257, 4096, yes(1, 256, 4096));
+    let codes = vec!["65535"; 4096].join(" ");
+    let longest = format!("k=65535\ncontexts=256\nc={codes}\n{}", "c=\n".repeat(255));
+    assert_eq!(longest.len(), 25_364);
+    lent("N17 25,364 bytes, the longest", longest.as_bytes(), 257, 4096, yes(65_535, 256, 4096));
 
     lent("N18 c=65535 4", &one_line("c=65535 4\n"), 257, 4096, yes(1, 1, 2));
     cases
@@ -380,6 +381,15 @@ impl ListingCase {
             Err(format!("'{}': {:?} is stated, {given:?} is found", self.name, self.printed))
         }
     }
+}
+
+/// The longest sheet that is accepted: all codes have four digits, and few contexts have any.
+pub fn longest_accepted() -> Vec<u8> {
+    let codes = |from: u16, to: u16| (from..to).map(|code| code.to_string()).collect::<Vec<String>>().join(" ");
+    let (one, two) = (codes(1000, 4096), codes(1000, 2000));
+    let text = format!("k=64\ncontexts=256\nc={one}\nc={two}\n{}", "c=\n".repeat(254));
+    assert_eq!(text.len(), 21_264);
+    text.into_bytes()
 }
 
 /// Contexts of one code each, in groups of these sizes: each group has its own code.
@@ -418,6 +428,8 @@ pub fn listings() -> Vec<ListingCase> {
     case("100,000 bytes of x", &[b'x'; 100_000], "refused=11 24576\n");
     case("a sheet of 24,576 bytes", &sheet_of_length(24_576), "refused=4 529\n");
     case("a sheet of 24,577 bytes", &sheet_of_length(24_577), "refused=11 24576\n");
+    let longest = longest_accepted();
+    case("N30 21,264 bytes", &longest, "k=64\nfound=1\nevents=4096\nmet=1\npair=0 1 1000 3096\n");
     // 2016 pairs, and 28 + 3 + 1 make 2048: all meet at the first event.
     let pairs: String = (1..64).map(|i| format!("pair=0 {i} 1 1\n")).chain(["pair=1 2 1 1\n".to_string()]).collect();
     case("2048 pairs met", &groups(64, &[64, 8, 3, 2]), &format!("k=64\nfound=64\nevents=77\nmet=2048\n{pairs}"));

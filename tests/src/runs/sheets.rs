@@ -235,14 +235,21 @@ fn named_readings() -> Result<u64, String> {
     Ok(cases.len() as u64)
 }
 
-/// The shortest sheet has 15 bytes; a text as long as the room is accepted.
-fn shortest_writing() -> Result<(), String> {
+/// The shortest sheet and the longest that is accepted: a text as long as the room is written, and no longer one.
+fn border_writings() -> Result<(), String> {
     let mut random = Random::new(0);
     let shortest = Tables { k: 1, offsets: vec![0], codes: Vec::new() };
-    for (room, answer) in [(15, [0, 15, 0, 0]), (16, [0, 15, 0, 0]), (14, [12, 0, 0, 0]), (0, [12, 0, 0, 0])] {
-        let (done, _) = write(&mut random, &shortest, room, 4).map_err(|what| format!("case 'N23'\n{what}"))?;
-        if done != answer {
-            return Err(format!("the shortest sheet in {room} bytes: {answer:?} is stated, {done:?} is found"));
+    let offsets = [vec![0, 3096], vec![4096; 255]].concat();
+    let longest = Tables { k: 64, offsets, codes: (1000..4096).chain(1000..2000).collect() };
+    let text = cases::longest_accepted();
+    for (tables, text) in [(shortest, &b"k=1\ncontexts=0\n"[..]), (longest, &text)] {
+        let length = text.len();
+        for room in [length, length + 1, length - 1, 0] {
+            let (done, written) = write(&mut random, &tables, room, 4).map_err(|what| format!("case 'N23'\n{what}"))?;
+            let answer = if room < length { [12, 0, 0, 0] } else { [0, length as u64, 0, 0] };
+            if done != answer || (room >= length && &written[..length] != text) {
+                return Err(format!("a sheet of {length} bytes in {room}: {answer:?} is stated, {done:?} is found"));
+            }
         }
     }
     Ok(())
@@ -376,7 +383,7 @@ fn readings_by_name(choice: &Choice) -> Result<(), String> {
 
 /// The writings by name, and those that are counted out.
 fn writings_by_name(_: &Choice) -> Result<(), String> {
-    shortest_writing()?;
+    border_writings()?;
     println!("write: {} tables by name agree", named_writings()?);
     every_table()?.report("write, every small table", &[0, 2, 3, 4, 5])
 }
