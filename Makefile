@@ -2,6 +2,7 @@
 SHELL := /bin/bash
 .DEFAULT_GOAL := help
 .SILENT:
+MAKEFLAGS += --no-print-directory
 .PHONY: help list program host install uninstall test trials bench clean
 
 # A file's name is taken as it is typed, also with spaces, quotes and `$`.

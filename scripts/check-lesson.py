@@ -10,6 +10,7 @@ its own status must be 0. What it says on standard error is shown only with a pr
 Status: 0 fine; 1 a block prints something else or fails, or a page has a block without its output, or no
 block at all; 2 a page cannot be read.
 """
+import os
 import re
 import subprocess
 import sys
@@ -36,7 +37,11 @@ def problem(commands, expected):
     """What is wrong with a step, or None."""
     if expected is None:
         return "no block marked `text` behind it\n"
-    run = subprocess.run(["sh", "-e", "-c", commands], cwd=ROOT, stdin=subprocess.DEVNULL, capture_output=True)
+    # A reader types the commands in a shell of their own, not below the `make` that runs this check.
+    own = {name: value for name, value in os.environ.items() if not name.startswith(("MAKE", "MFLAGS"))}
+    run = subprocess.run(
+        ["sh", "-e", "-c", commands], cwd=ROOT, env=own, stdin=subprocess.DEVNULL, capture_output=True
+    )
     if run.returncode == 0 and run.stdout == expected:
         return None
     return (
