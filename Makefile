@@ -16,6 +16,7 @@ BUILD := scripts/build.py
 #: make list SHEET=FILE       list a sheet: the most alike pairs, or in words why it is refused
 list:
 	[ -n "$$SHEET" ] || { echo "Which sheet? For example: make list SHEET=examples/three.sheet" >&2; exit 2; }
+	[ "$$SHEET" = - ] || [ -e "$$SHEET" ] || exec scripts/list.py -- "$$SHEET"
 	$(BUILD) program
 	scripts/list.py -- "$$SHEET"
 
@@ -50,7 +51,7 @@ bench:
 	$(BUILD) host probe
 	cd bench && CARGO_TARGET_DIR=../target/bench SAZAMKHRI_LIB="$$PWD/../target/staticlib" cargo run --release --quiet --offline
 
-#: make clean                 remove all that was built
+#: make clean                 remove target/, with all that was built or listed there
 clean:
 	rm -rf target
 

@@ -187,11 +187,15 @@ def main(products):
         return 2
     try:
         kit = subprocess.run(["rt", "version"], check=True, capture_output=True).stdout
+    except (OSError, subprocess.CalledProcessError) as fault:
+        print(f"The command rt of the Rattle kit cannot be run here: {fault}", file=sys.stderr)
+        return 2
+    try:
         uses = dependencies()
         stale = [p for p in products if not is_made(p, uses, kit)]
         return build(stale, uses, kit) if stale else 0
-    except (OSError, subprocess.CalledProcessError) as fault:
-        print(f"The command rt of the Rattle kit cannot be run here: {fault}", file=sys.stderr)
+    except OSError as fault:
+        print(f"Cannot build here: {fault}", file=sys.stderr)
         return 2
     except KeyboardInterrupt:
         print("\nStopped. The crates that are proved stay so.", file=sys.stderr)

@@ -14,6 +14,10 @@ MOST_BYTES = 32 * 1024 * 1024
 NO_TEXT = re.compile("[\0\udc80-\udcff]")
 # Joiners are hidden too, but some scripts need them inside a word.
 JOINERS = "\u200c\u200d"
+# Blanks that look alike: two names that differ in them alone are one.
+BLANKS = re.compile("[ \u00a0\u1680\u2000-\u200a\u202f\u205f\u3000]+")
+# How files of office programs begin, whatever their name ends in.
+SPREADSHEETS = (b"PK\3\4", b"\xd0\xcf\x11\xe0")
 
 
 class Refused(Exception):
@@ -137,6 +141,8 @@ def found_delimiter(text):
     seen = [d for d in DELIMITERS.values() if d in first]
     if len(seen) == 1:
         return seen[0]
+    if not any(d in bare for d in DELIMITERS.values()):
+        raise Refused("there is only one column: no comma, semicolon or tab parts the cells. Save it as CSV again.")
     even = [d for d in seen or DELIMITERS.values() if is_even(text, d)]
     if len(even) != 1:
         check_quotes(text, seen)
@@ -171,6 +177,8 @@ def check_text(text, delimiter):
 
 def rows_of(data, delimiter=None):
     """The filled rows of a CSV file, each with its number."""
+    if data.startswith(SPREADSHEETS):
+        raise Refused("this is a spreadsheet or an archive, not CSV. Open it, and save it as 'CSV UTF-8'.")
     text = data.decode("utf-8-sig", "surrogateescape")
     check_text(text, delimiter)
     if re.match(r'\s*"?sep=.?"?\s*[\r\n]', text, re.I):
@@ -182,8 +190,8 @@ def rows_of(data, delimiter=None):
 
 
 def trimmed(cell):
-    """A name without blanks at its ends, and with é in one way only, however it was typed."""
-    return unicodedata.normalize("NFC", cell.strip())
+    """A name without blanks at its ends, with one space for blanks inside, and with é in one way only."""
+    return unicodedata.normalize("NFC", BLANKS.sub(" ", cell.strip()))
 
 
 def name_in(cell, what, row, column):
@@ -191,8 +199,9 @@ def name_in(cell, what, row, column):
     name = trimmed(cell)
     if not name:
         raise Refused(f"the name of a {what} is missing. Give it a name, or delete what is not wanted.", row, column)
-    for letter in name:
-        if unicodedata.category(letter) in ("Cc", "Cf", "Zl", "Zp") and letter not in JOINERS:
+    for at, letter in enumerate(name):
+        joins = letter in JOINERS and 0 < at < len(name) - 1
+        if unicodedata.category(letter) in ("Cc", "Cf", "Zl", "Zp") and not joins:
             words = f"the {what}'s name {shown(name)} holds a line break, a tab or another hidden character"
             raise Refused(f"{words} (U+{ord(letter):04X}). Delete it.", row, column)
     return name

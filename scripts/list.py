@@ -28,6 +28,11 @@ from refusals import LIMIT, Sheet, refusal_words
 from shown_text import shown
 
 PROGRAM = Path(__file__).resolve().parent.parent / "target" / "bin" / "sazamkhri"
+USAGE = """usage: scripts/list.py [--] [SHEET]
+
+Lists the sheet, or the one on standard input; says in words why it is refused.
+Exit status: 0 listed, 1 refused, 2 cannot read or write.
+"""
 PATIENCE = 60  # seconds; the program needs far less than one
 AGAIN = "build it anew with `make program`"
 FAULTS = {
@@ -129,6 +134,9 @@ def main(arguments):
     if signal.getsignal(signal.SIGINT) is signal.default_int_handler:
         signal.signal(signal.SIGINT, signal.SIG_DFL)  # an interrupt ends the script without a word
     try:
+        if arguments in (["-h"], ["--help"]):
+            write_all(1, USAGE.encode())
+            return 0
         sheet = read_sheet(sheet_named(arguments))
         run = run_program(sheet)
         write_listing(sheet, run.stdout)

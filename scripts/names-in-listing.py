@@ -15,7 +15,7 @@ import re
 import sys
 
 from csv_text import DELIMITERS, Refused, Unreachable
-from csv_text import at_file, name_in, read_bytes, rows_of, say
+from csv_text import at_file, counted, name_in, read_bytes, rows_of, say
 from listings import HEADS, NUMBER, NoListing, listing_in
 from shown_text import width
 
@@ -67,8 +67,8 @@ def table(names, listing):
             raise Refused(f"{words} The listing and the names do not belong together.", len(HEADS) + rank)
         told = f"{percentage(shared, union)}%", f"{shared} of {union}"
         rows.append((str(rank), *told, names[lower], names[higher]))
-    said = (f"{listing.found} of {listing.k} wanted pairs found; {listing.events} places of contexts looked at, "
-            f"{listing.met} pairs compared.")
+    said = (f"{listing.found} of {counted(listing.k, 'wanted pair')} found; "
+            f"{counted(listing.events, 'place')} of contexts looked at, {counted(listing.met, 'pair')} compared.")
     return "\n".join([said, *(aligned(rows) if listing.pairs else [])]) + "\n"
 
 

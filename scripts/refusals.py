@@ -27,8 +27,8 @@ REFUSALS = {
     7: Refusal("place", "The work area is too short" + BROKEN, REPORT),
     8: Refusal("", "More pairs meet than the trail has room for (2,048).",
                "Number rare types lower than common ones, so that contexts meet later (scripts/sheet-from-catalogue.py"
-               " does that, if you have a catalogue as CSV); or ask for fewer pairs; or take fewer contexts: up to 64"
-               " contexts always fit."),
+               " does that, if you have a catalogue as CSV); or ask for fewer pairs; or take fewer contexts, which"
+               " always helps in the end: 64 contexts fit whatever they hold."),
     9: Refusal("byte", "The sheet is badly formed.",
                "Look there: a comma, two spaces, a space at a line's end, a leading zero, Windows line ends, a missing"
                " last line end, too few or too many `c=` lines."),
@@ -40,13 +40,18 @@ REFUSALS = {
 UNKNOWN = Refusal("place", "This number is not known here: the program is newer than this script, or broken.", REPORT)
 
 # Words for refusal 9. How files begin that are no plain text, or not quite.
-UTF_16 = "The file is UTF-16 text, with two bytes for each letter."
+PLAIN = "Save the sheet as plain text (UTF-8, without a byte order mark)."
+CATALOGUE = ("If it is a catalogue, save it as CSV, and make a sheet of it with scripts/sheet-from-catalogue.py: "
+             "docs/CATALOGUES.md tells how.")
+UTF_16 = ("The file is UTF-16 text, with two bytes for each letter.", PLAIN)
+OFFICE = ("The file is a spreadsheet, an office document or an archive, not plain text.", CATALOGUE)
 NO_SHEETS = {
-    b"\xef\xbb\xbf": "A byte order mark stands in front of the text.",
+    b"\xef\xbb\xbfk": ("A byte order mark stands in front of the text.", PLAIN),
     b"\xff\xfe": UTF_16, b"\xfe\xff": UTF_16, b"k\0": UTF_16, b"\0k": UTF_16,
-    b"PK\3\4": "The file is a spreadsheet or an archive, not plain text.",
-    b"\xd0\xcf\x11\xe0": "The file is a spreadsheet or an office document, not plain text.",
+    b"PK\3\4": OFFICE, b"\xd0\xcf\x11\xe0": OFFICE,
 }
+# A first line with what parts the cells of a table, and no `k=` in it.
+TABLE = re.compile(rb"(?![^\n]*\bk *=)[^\n]*[,;\t|]", re.I)
 # The lines of a sheet: what belongs there, the greatest number, and the form behind the key as far as it is kept.
 Form = namedtuple("Form", "belongs most kept")
 NUMBER = rb"(?:0|[1-9][0-9]*)"
@@ -148,6 +153,8 @@ def about_number(sheet, place):
 
 
 def about_room(sheet, place):
+    if len(sheet.text) > LIMIT and place == LIMIT and not sheet.text.startswith(b"k="):
+        return f"This is no sheet: it does not begin with `k=`, and it has {sheet.size} bytes.", CATALOGUE
     if len(sheet.text) > LIMIT:
         return (f"The sheet has {sheet.size} bytes, but there is room for 24,576.", None) if place == LIMIT else None
     numbers = numbers_of(sheet.text)
@@ -163,9 +170,11 @@ def about_room(sheet, place):
 def about_form(sheet, place):
     text, line = sheet.text, line_at(sheet.text, place)
     promised = re.match(rb"[^\n]*\ncontexts=([0-9]+)|", text)[1] or b"0"
-    for beginning, wrong in NO_SHEETS.items():
+    for beginning, words in NO_SHEETS.items():
         if place < 2 and text.startswith(beginning):
-            return wrong, "Save the sheet as plain text (UTF-8, without a byte order mark)."
+            return words
+    if place == 0 and TABLE.match(text):
+        return "This looks like a table, not like a sheet.", CATALOGUE
     if line.number > value(promised) + 2:
         return goes_on(text, line, brief(promised)) if line.start == place < len(text) else None
     key = ("", "k=", "contexts=")[line.number] if line.number < 3 else "c="

@@ -72,10 +72,10 @@ def is_present(cell, row, column):
     raise Refused(f"{words} Correct the cell; if each row is a find, say --list.", row, column)
 
 
-def check_width(cells, row, wanted, why):
-    """Refuses a row with more or fewer cells than are wanted, at the first one too many or missing."""
+def check_width(cells, row, wanted, why, more, fewer):
+    """Refuses a row with more or fewer cells than are wanted, each with its advice, at the first one that is wrong."""
     if len(cells) != wanted:
-        words = f"the row has {counted(len(cells), 'cell')}, but {why}."
+        words = f"the row has {counted(len(cells), 'cell')}, but {why}. {more if len(cells) > wanted else fewer}"
         raise Refused(words, row, min(len(cells), wanted) + 1)
 
 
@@ -113,16 +113,21 @@ def from_table(rows):
     types = types_of(heads, first)
     site = Site()
     for row, cells in rows[1:]:
-        check_width(cells, row, len(heads), f"the heads in row {first} have {len(heads)}")
+        # Some spreadsheets leave out empty cells at the end of a row, and nobody sees it there.
+        check_width(cells, row, len(heads), f"the heads in row {first} have {len(heads)}",
+                    "Put a name with a delimiter in it into quotes.", "Type 0 into the empty cells at its end.")
         add_row(site, types, row, cells)
     spare = len(types) - len(set().union(*site.contexts.values()))
     return site, [f"Types without a code, since they stand in no context: {spare}."] if spare else []
 
 
 def check_heads(first, heads, rows):
-    """Refuses heads that stand again further down: a find that is lost in silence makes a wrong sheet."""
+    """Refuses heads that are none: a find that is lost in silence, or a title as a find, makes a wrong sheet."""
     for column, head in enumerate(heads):
-        again = next((row for row, cells in rows if head and trimmed(cells[column]) == head), None)
+        if not head:
+            words = "a head is missing. Fill the cell; if a title stands above the list, take it out."
+            raise Refused(words, first, column + 1)
+        again = next((row for row, cells in rows if trimmed(cells[column]) == head), None)
         if again:
             words = f"the first row looks like data: {shown(head)} stands again in row {again}."
             raise Refused(f"{words} Give the list a first row of heads, or say --no-heads.", first, column + 1)
@@ -131,7 +136,8 @@ def check_heads(first, heads, rows):
 def from_list(rows, has_heads):
     """The site of a long list, and what the user should know of it."""
     for row, cells in rows:
-        check_width(cells, row, 2, "a long list has 2: context and type. For a presence table say --table")
+        check_width(cells, row, 2, "a long list has 2: context and type",
+                    "Take out other columns; for a presence table say --table.", "Fill in what is missing.")
     notes = []
     if has_heads:
         (first, cells), *rows = rows
@@ -161,7 +167,9 @@ def sheet_text(site, kinds, pairs):
 
 
 def names_text(site, kinds):
+    """The names file. The mark in front tells a spreadsheet that it is UTF-8."""
     text = io.StringIO()
+    text.write("\ufeff")
     table = csv.writer(text, lineterminator="\n")
     table.writerow(("kind", "number", "name"))
     table.writerows(("context", number, name) for number, name in enumerate(site.contexts))

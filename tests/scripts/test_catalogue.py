@@ -71,8 +71,8 @@ def read_sheet(data):
 def read_names(data):
     """Names of contexts and of codes."""
     text = data.decode("utf-8")
-    assert not text.startswith("\ufeff") and "\r" not in text
-    heads, *rows = csv.reader(io.StringIO(text, newline=""), strict=True)
+    assert text.startswith("\ufeff") and "\r" not in text
+    heads, *rows = csv.reader(io.StringIO(text[1:], newline=""), strict=True)
     assert heads == ["kind", "number", "name"]
     contexts = [name for kind, _, name in rows if kind == "context"]
     codes = [name for kind, _, name in rows if kind == "code"]
@@ -163,7 +163,7 @@ class Tables(Trial):
         self.assertEqual((self.folder / "out.sheet").read_text(), "k=7\ncontexts=4\nc=1 2\nc=1 2\nc=0 2\nc=\n")
         names = "kind,number,name\ncontext,0,G 2\ncontext,1,G 1\ncontext,2,Pit\ncontext,3,Empty\n"
         names += "code,0,Knife\ncode,1,Bead\ncode,2,Pot\n"
-        self.assertEqual((self.folder / "out.names.csv").read_bytes(), names.encode())
+        self.assertEqual((self.folder / "out.names.csv").read_bytes(), names.encode("utf-8-sig"))
         self.assertIn("4 contexts, 3 types, 6 codes.", self.notes)
         self.assertIn("stand in no context: 1.", self.notes)
         self.assertIn(f"\nNext: make list SHEET={self.folder}/out.sheet\n", self.notes)
@@ -191,7 +191,8 @@ class Tables(Trial):
 
     def test_ragged(self):
         self.refused("g,Bowl,Bead\nG 1,1,1\nG 2,1\n", "--table", "row 3, column 3 (C)", "2 cells", "row 1 have 3")
-        self.refused("g,Bowl\nG 1,1,\n", "--table", "row 2, column 3 (C)", "3 cells", "row 1 have 2")
+        self.refused("g,Bowl\nG 1,1,\n", "--table", "row 2, column 3 (C)", "3 cells", "row 1 have 2", "into quotes")
+        self.refused("g,Bowl,Bead\nG 1,1\n", "--table", "row 2, column 3 (C)", "2 cells", "Type 0")
 
     def test_blank_rows(self):
         site = self.made("\n,,\ng,Bowl,Bead\n\n , ,\nG 1,1,\n\n\n,\nG 2,,1\n\n", "--table")
@@ -243,9 +244,19 @@ class Lists(Trial):
         site = self.made("g,t\nCaf\u00e9,Bowl\nCafe\u0301,Bead\n", "--list")
         self.assertEqual(site, [("Caf\u00e9", {"Bowl", "Bead"})])
 
-    def test_inner_spaces_stay(self):
-        site = self.made("g,t\n\u00a0G  1 ,Bowl\nG 1,Bowl\n", "--list")
-        self.assertEqual(site, [("G  1", {"Bowl"}), ("G 1", {"Bowl"})])
+    def test_blanks_that_look_alike(self):
+        for blank in ("  ", "\u00a0", " \u2009", "\u3000", "\u202f"):
+            site = self.made(f"g,t\n\u00a0G{blank}1 ,Bowl\nG 1,Red{blank}bead\nG 1,Red bead\n", "--list")
+            self.assertEqual(site, [("G 1", {"Bowl", "Red bead"})])
+
+    def test_joiners(self):
+        self.assertEqual(self.made("g,t\nمی\u200cخ,Bowl\n", "--list"), [("می\u200cخ", {"Bowl"})])
+        for name in ("Bowl\u200d", "\u200cBowl"):
+            self.refused(f"g,t\nG,Bowl\nG,{name}\n", "--list", "row 3, column 2 (B)", "hidden character")
+
+    def test_a_title_is_no_head(self):
+        self.refused("Finds of 2024;\nContext;Type\nG 1;Bowl\n", "--list", "row 1, column 2 (B)", "title")
+        self.refused(";Type\nG 1;Bowl\n", "--list", "row 1, column 1 (A)", "head is missing")
 
     def test_empty_names(self):
         self.refused("g,t\nG,Bowl\n,Bead\n", "--list", "row 3, column 1 (A)", "context is missing")
@@ -253,7 +264,7 @@ class Lists(Trial):
         self.refused('g,t\nG,"Bo\nwl"\n', "--list", "row 2, column 2 (B)", "U+000A")
 
     def test_ragged(self):
-        self.refused("g,t\nG,Bowl\nG,Bead,2\n", "--list", "row 3, column 3 (C)", "3 cells", "--table")
+        self.refused("g,t\nG,Bowl\nG,Bead,2\n", "--list", "row 3, column 3 (C)", "3 cells", "other columns", "--table")
         self.refused("g,t\nG\n", "--list", "row 2, column 2 (B)", "1 cell,")
         self.refused("g,t,n\nG,Bowl,1\n", "--list", "row 1, column 3 (C)")
 
@@ -271,6 +282,10 @@ class Reading(Trial):
                 text = self.written(delimiter, end)
                 for data in (text, text + end, "\ufeff" + text + end):
                     self.assertEqual(self.made(data, "--table"), self.WANTED, repr(data))
+
+    def test_spreadsheets(self):
+        for data in (b"PK\3\4\x14\0\6\0", b"\xd0\xcf\x11\xe0\xa1\xb1"):
+            self.refused(data, "--table", "", "spreadsheet", "'CSV UTF-8'")
 
     def test_other_encodings(self):
         text = self.written(";", "\r\n")
@@ -299,7 +314,8 @@ class Reading(Trial):
         self.assertEqual(site, [("G 1, man", {"Bowl"}), ("G 2, girl", {"Bead"})])
         site = self.made(text, "--list", "--no-heads", "--delimiter", "comma")
         self.assertEqual(site, [("G 1", {"man;Bowl"}), ("G 2", {"girl;Bead"})])
-        self.refused("g\nG 1\nG 2\n", "--table", "", "not clear", "--delimiter")
+        for text in ("g\nG 1\nG 2\n", "g|a|b\nG|1|x\n"):
+            self.refused(text, "--table", "", "only one column")
         self.refused("g;a,b\nG;1,2;3\nH;1\n", "--table", "", "not clear", "--delimiter")
 
     def test_quotes(self):
@@ -598,7 +614,7 @@ class Listings(unittest.TestCase):
 
     def test_no_pairs(self):
         ran = self.named(listing="k=1\nfound=0\nevents=2\nmet=0\n")
-        wanted = b"0 of 1 wanted pairs found; 2 places of contexts looked at, 0 pairs compared.\n"
+        wanted = b"0 of 1 wanted pair found; 2 places of contexts looked at, 0 pairs compared.\n"
         self.assertEqual((ran.returncode, ran.stdout), (0, wanted))
 
     def test_widths(self):
@@ -805,7 +821,7 @@ def odd_names(rng, count):
     names = []
     while len(names) < count:
         words = rng.sample(ODD, rng.randint(1, 2)) + rng.choice([[], [str(rng.randint(1, 40))]])
-        name = unicodedata.normalize("NFC", " ".join(words))
+        name = unicodedata.normalize("NFC", re.sub("[ \u00a0]+", " ", " ".join(words)))
         names += [name] if name not in names else []
     return names
 
@@ -829,6 +845,7 @@ class Writer:
         """A name as somebody typed it: é in one sign or two, with blanks around."""
         form = self.rng.choice(["NFC", "NFD"])
         blank = self.rng.choice(["", "", " ", "\u00a0"])
+        name = re.sub(" ", lambda _: self.rng.choice([" ", " ", "  ", "\u00a0", "\u2009 "]), name)
         return blank + unicodedata.normalize(form, name) + self.rng.choice(["", "", " "])
 
     def cell(self, text):

@@ -32,6 +32,10 @@ NOBODY = 65534
 WINDOWS = ("The line ends as on Windows, in a carriage return. Save the sheet with Unix line ends (LF), or type: "
            "tr -d '\\r' < my.sheet > new.sheet")
 PLAIN = "Save the sheet as plain text (UTF-8, without a byte order mark)."
+CATALOGUE = ("If it is a catalogue, save it as CSV, and make a sheet of it with scripts/sheet-from-catalogue.py: "
+             "docs/CATALOGUES.md tells how.")
+OFFICE = "The file is a spreadsheet, an office document or an archive, not plain text. " + CATALOGUE
+TABLE = "This looks like a table, not like a sheet. " + CATALOGUE
 UTF_16 = "The file is UTF-16 text, with two bytes for each letter. " + PLAIN
 K_BELONGS = "Here a line `k=` with the number of pairs wanted belongs."
 CONTEXTS_BELONGS = "Here a line `contexts=` with the number of contexts belongs."
@@ -141,7 +145,10 @@ BYTES = [
     (b"\xfe\xff" + "k=1\ncontexts=0\n".encode("utf-16-be"), 0, r"\xfe\xff\x00k\x00=\x001\x00", UTF_16),
     ("k=1\n".encode("utf-16-le"), 1, r"k\x00=\x001\x00", UTF_16),
     ("k=1\n".encode("utf-16-be"), 0, r"\x00k\x00=\x001\x00", UTF_16),
-    (b"PK\3\4\x14\0", 0, r"PK\x03\x04\x14\x00", "The file is a spreadsheet or an archive, not plain text. " + PLAIN),
+    (b"PK\3\4\x14\0", 0, r"PK\x03\x04\x14\x00", OFFICE),
+    (b"\xd0\xcf\x11\xe0\xa1", 0, r"\xd0\xcf\x11\xe0\xa1", OFFICE),
+    (b"Grave;Bowl\nG 1;x\n", 0, "Grave;Bowl", TABLE),
+    ("\ufeffGrave,k\n".encode(), 0, "\\ufeffGrave,k", TABLE),
     (b"k=1\xe4\n", 3, r"k=1\xe4", "Byte 228, which is no text, stands in a number. Write digits alone."),
     (b"k=\x1b[31m\n", 2, r"k=\x1b[31m",
      "The sign \\x1b (U+001B) stands where a number belongs. Write digits alone, without a sign."),
@@ -303,8 +310,8 @@ class Refusals(unittest.TestCase):
     def test_room_for_bytes(self):
         # The last line's characters have 1, 3, 3 and 1 + 2 bytes; 漢 takes two columns, the accent none.
         for before, columns in (("k", 1), ("აბგ", 3), ("漢漢", 4), ("e\u0301x", 2)):
-            sheet = b"\n" * (24576 - len(before.encode())) + before.encode() + b"?" * 24
-            line = 24576 - len(before.encode()) + 1
+            sheet = b"k=" + b"\n" * (24574 - len(before.encode())) + before.encode() + b"?" * 24
+            line = 24574 - len(before.encode()) + 1
             head = f"11 at byte 24576: line {line}, column {len(before) + 1}"
             words = f"The sheet has more than 24,576 bytes, but there is room for 24,576. {SPLIT}"
             with self.subTest(before=before):
@@ -316,10 +323,20 @@ class Refusals(unittest.TestCase):
         self.assertIn("line 24573, column 2\n    აბ", run.stderr.decode())
 
     def test_size_of_a_file(self):
-        with tempfile.NamedTemporaryFile() as file:
-            file.write(b"x" * 30000)
-            file.flush()
-            self.assertIn(b"The sheet has 30,000 bytes, but", listed(file.name).stderr)
+        for beginning, words in ((b"k=", "The sheet has 30,000 bytes, but"), (b"PK", "This is no sheet"), (b"a,b", CATALOGUE)):
+            with tempfile.NamedTemporaryFile() as file:
+                file.write(beginning.ljust(30000, b"x"))
+                file.flush()
+                run = listed(file.name)
+                self.assertIn(words, run.stderr.decode())
+                self.assertIn("30,000 bytes", run.stderr.decode())
+                self.assertEqual((run.returncode, run.stdout), (1, b"refused=11 24576\n"))
+
+    def test_help(self):
+        for word in ("-h", "--help"):
+            run = listed(word)
+            self.assertEqual((run.returncode, run.stderr), (0, b""))
+            self.assertIn(b"usage: scripts/list.py", run.stdout)
 
     def test_long_line(self):
         left, right = " ".join(map(str, range(100, 400))), " ".join(map(str, range(500, 800)))
