@@ -5,12 +5,19 @@ SHELL := /bin/bash
 MAKEFLAGS += --no-print-directory
 .PHONY: help list program host install uninstall test trials bench clean
 
-# A file's name is taken as it is typed, also with spaces, quotes and `$`.
+# Whatever is typed is taken as it is, also with spaces, quotes and `$`.
 override SHEET := $(value SHEET)
 PREFIX ?= /usr/local
 override PREFIX := $(value PREFIX)
 override DESTDIR := $(value DESTDIR)
-export SHEET PREFIX DESTDIR
+# The words of the trials; one that is not given is empty.
+KIND ?= all
+override KIND := $(value KIND)
+override N := $(value N)
+override SEED := $(value SEED)
+override TRIAL := $(value TRIAL)
+override JOBS := $(value JOBS)
+export SHEET PREFIX DESTDIR KIND N SEED TRIAL JOBS
 BUILD := scripts/build.py
 
 #: make list SHEET=FILE       list a sheet: the most alike pairs, or in words why it is refused
@@ -44,7 +51,7 @@ test:
 #: make trials N=.. SEED=..   that many random cases of each kind against an independent program (tests/README.md)
 trials:
 	$(BUILD) program host probe
-	scripts/trials.sh $(or $(KIND),all) path="$$PWD/target/bin/sazamkhri" n=$(N) seed=$(SEED) trial=$(TRIAL) jobs=$(JOBS)
+	scripts/trials.sh "$$KIND" path="$$PWD/target/bin/sazamkhri" n="$$N" seed="$$SEED" trial="$$TRIAL" jobs="$$JOBS"
 
 #: make bench                 time it beside plain Rust
 bench:

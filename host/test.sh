@@ -3,7 +3,7 @@
 # the sanitizers; the library as a file; README's lines; and that it installs. host/try.sh sees these checks fail.
 set -eu -o pipefail
 cd "$(dirname "$0")/.."
-host/build.sh
+env -u PROGRAMS -u KINDS host/build.sh
 for kind in "" .san; do
     target/host/check$kind
     host/check-program.sh target/host/list_sheet$kind

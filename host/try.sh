@@ -13,7 +13,7 @@ CC=${CC:-cc}
 copy=$(mktemp -d)
 trap 'rm -rf "$copy"' EXIT
 tried=0 wrong=0
-export KINDS=plain
+export KINDS=plain LC_ALL=C
 
 # The part of the project that the checks look at, as it is.
 fresh() {

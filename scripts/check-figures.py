@@ -10,7 +10,8 @@ import re
 import sys
 from pathlib import Path
 
-PAGES = ("README.md", "CONTRIBUTING.md", "CHANGELOG.md", "docs/*.md", "examples/refused/README.md", "tests/README.md")
+PAGES = ("README.md", "CONTRIBUTING.md", "CHANGELOG.md", "docs/LESSON.md", "docs/CATALOGUES.md", "docs/DECISIONS.md",
+         "docs/PROMISES.md", "docs/BENCHMARKS.md", "examples/refused/README.md", "tests/README.md")
 # What a page may name although it is made only later, or stands for any name.
 MADE = ("target/", "crates/NAME", "crates/*", "docs/landings", "examples/refused/NAME")
 
@@ -106,8 +107,9 @@ def ratios(root):
 def names(root):
     """Every file and every `make` target that a page names is there."""
     targets = set(Text(root, "Makefile").find(r"^([a-z]+):"))
-    wrong = []
-    for page in sorted(p for pattern in PAGES for p in root.glob(pattern)):
+    wrong = [f"{page.relative_to(root)}: not among the pages that are looked at" for page in root.glob("docs/*.md")
+             if str(page.relative_to(root)) not in PAGES]
+    for page in (root / name for name in PAGES):
         text = page.read_text(encoding="utf-8")
         told = page.relative_to(root)
         for name in re.findall(r"(?:^|`)make ([a-z]+)\b", text, re.M):

@@ -1,11 +1,11 @@
 #!/usr/bin/env python3
 """Runs the commands of a page from the project's root, and compares what they print.
 
-    scripts/check-lesson.py [PAGE..]        no PAGE: docs/LESSON.md, and docs/CATALOGUES.md if it is there
+    scripts/check-lesson.py [PAGE..]        no PAGE: docs/LESSON.md and docs/CATALOGUES.md
 
 Each block marked `sh` is followed by a block marked `text` with its standard output, byte for byte (nothing
-for a block that prints nothing). A block is run by `sh -e`, so it stops at the first command that fails, and
-its own status must be 0. What it says on standard error is shown only with a problem.
+for a block that prints nothing). A block stops at the first command that fails, also inside a pipe, and its
+own status must be 0. What it says on standard error is shown only with a problem.
 
 Status: 0 fine; 1 a block prints something else or fails, or a page has a block without its output, or no
 block at all; 2 a page cannot be read.
@@ -40,7 +40,7 @@ def problem(commands, expected):
     # A reader types the commands in a shell of their own, not below the `make` that runs this check.
     own = {name: value for name, value in os.environ.items() if not name.startswith(("MAKE", "MFLAGS"))}
     run = subprocess.run(
-        ["sh", "-e", "-c", commands], cwd=ROOT, env=own, stdin=subprocess.DEVNULL, capture_output=True
+        ["bash", "-e", "-o", "pipefail", "-c", commands], cwd=ROOT, env=own, stdin=subprocess.DEVNULL, capture_output=True
     )
     if run.returncode == 0 and run.stdout == expected:
         return None
@@ -60,7 +60,7 @@ def check(page, text):
             wrong += 1
             print(f"--- {page}, line {line}\n{shown(commands)}{found}", end="")
     # A block that the pattern does not see would not be run: it is indented, or never closed.
-    unseen = len(re.findall(rb"^[ \t]*(?:```|~~~)[ \t]*sh\b", text, re.M)) - steps
+    unseen = len(re.findall(rb"^[ \t]*(?:```|~~~)[ \t]*(?:sh|bash|zsh|shell|console)\b", text, re.M)) - steps
     if unseen or not steps:
         wrong += 1
         print(f"--- {page}: blocks of commands that cannot be read: {unseen}" if unseen else f"--- {page}: no step")
@@ -70,9 +70,8 @@ def check(page, text):
 
 def main(arguments):
     sys.stdout.reconfigure(errors="backslashreplace")  # names in any script, on any terminal
-    pages = arguments or [page for page in PAGES if page == PAGES[0] or page.exists()]
     wrong = 0
-    for page in pages:
+    for page in arguments or PAGES:
         try:
             text = Path(page).read_bytes()
         except OSError as error:

@@ -3,7 +3,7 @@
 # then the programs in Rust, C and Python against what was built from the proved crates.
 # Whatever fails, the rest still runs; the last line counts what passed and what failed. Logs: target/gate/.
 cd "$(dirname "$0")/.." || exit 1
-. scripts/steps.sh
+. scripts/steps.sh || exit 1
 
 oracle() {
     (cd tests && CARGO_TARGET_DIR=../target/trials cargo test --release --quiet --offline --no-default-features)
@@ -29,7 +29,7 @@ step "the lesson and the catalogue's page print what they say" python3 scripts/c
 step "host program in C, plain and under the sanitizers" host/test.sh
 step "the host's checks notice mistakes" host/try.sh
 for test in tests/scripts/test_*.py; do
-    step "$test" python3 "$test"
+    step "$test" python3 scripts/run-tests.py "$test"
 done
 
 tally target/gate

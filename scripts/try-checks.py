@@ -43,91 +43,72 @@ def entry_points():
     return sorted(module.ENTRY_POINTS)
 
 
-def refused(check, root):
-    return subprocess.run([sys.executable, HERE / check, root], capture_output=True).returncode != 0
+def verdict(check, root):
+    """What a check says: passed, refused, or neither if it breaks down."""
+    run = subprocess.run([sys.executable, HERE / check, root], capture_output=True)
+    if b"Traceback" in run.stderr:
+        return "broke down"
+    return {0: "passed", 1: "refused"}.get(run.returncode, "broke down")
+
+
+def swapped(old, new):
+    """A change of text, at the first place."""
+    return lambda text: text.replace(old, new, 1)
+
+
+def rewritten(pattern, new, flags=0):
+    """A change by a pattern, at the first place."""
+    return lambda text: re.sub(pattern, new, text, count=1, flags=flags)
+
+
+def inside(pattern, inner, new, flags=0):
+    """A change by a pattern inside the second group of another."""
+    return rewritten(pattern, lambda m: m[1] + re.sub(inner, new, m[2], count=1, flags=flags))
+
+
+def contract_damages(full):
+    """What can be wrong with an entry point's contract and theorems: what it is, the file, and the change."""
+    crate, name = full.split("::")
+    source, proofs = f"crates/{crate}/src/lib.rt", f"crates/{crate}/proofs/Only.antt"
+    only, says = (name.replace("_", "-") + end for end in ("-only", "-says"))
+    ensures = rf"(\bfn {name}\b.*?\n)(    ensures )"
+    stated = rf"(pub {only} : )(OneAnswer[^\n]*(?:\n    [^\n]*)*)"
+    whole = stated + rf"(\n{only}[^\n]*(?:\n    [^\n]*)*)"
+    yield f"a `requires` on {full}", source, rewritten(ensures, r"\1    requires { ⌜ 0 < 0 ⌝ }\n\2", re.S)
+    for what, change in (
+        ("that does not name the contract", rewritten(rf"(pub {only} :[^\n]*?)\S+\.Post\b", r"\1Other")),
+        ("over another function's contract", swapped(f"proofs.{name}.Reads", f"proofs.{name}_other.Reads")),
+        ("in a comment", rewritten(whole, r"{- \1\2\3 -}")),
+        ("with a premise", rewritten(stated, r"\1⊥ → \2")),
+        ("over a richer contract", inside(stated, r"(\S+\.Post)", r"(λ κs a u x. \1 κs a u x × More)")),
+        ("by another `OneAnswer`", rewritten(stated, r"\1fake.\2")),
+        ("by an `OneAnswer` from elsewhere", swapped("Rattle.words.proofs.OneAnswer.{", "Rattle.words.proofs.Lists.{")),
+        ("with a view that forgets", inside(stated, r"λ κs u x\. (.*)\)$", r"λ κs u x. let w = \1 in 0)", re.S)),
+        ("that sees no buffer", rewritten(rf"(pub {only} :.*?λ κs u x\.)[^\n]*\)\n", r"\1 u)\n", re.S)),
+    ):
+        yield f"a `{only}` {what}", proofs, change
+    if crate != "probe":
+        yield f"no `{says}`", proofs, swapped(f"pub {says} :", f"pub not-{says} :")
 
 
 def damages():
     """Each damage: what it is, the check that must notice, the file, and how its text changes."""
     for full in entry_points():
-        crate, name = full.split("::")
-        yield (
-            f"a `requires` on {full}",
-            "public-functions.py",
-            f"crates/{crate}/src/lib.rt",
-            lambda t, name=name: re.sub(
-                rf"(\bfn {name}\b.*?\n)(    ensures )", r"\1    requires { ⌜ 0 < 0 ⌝ }\n\2", t, count=1, flags=re.S
-            ),
-        )
-        only = name.replace("_", "-") + "-only"
-        proofs = f"crates/{crate}/proofs/Only.antt"
-        yield (
-            f"a `{only}` that does not name the contract",
-            "public-functions.py",
-            proofs,
-            lambda t, only=only: re.sub(rf"(pub {only} :[^\n]*?)\S+\.Post\b", r"\1Other", t, count=1),
-        )
-        yield (
-            f"a `{only}` over another function's contract",
-            "public-functions.py",
-            proofs,
-            lambda t, name=name: t.replace(f"proofs.{name}.Reads", f"proofs.{name}_other.Reads", 1),
-        )
-        stated = rf"(pub {only} : )(OneAnswer[^\n]*(?:\n    [^\n]*)*)"
-        for what, change in (
-            ("in a comment", lambda t, s=stated: re.sub(s + r"(\n{0}[^\n]*(?:\n    [^\n]*)*)".format(only), r"{- \1\2\3 -}", t, count=1)),
-            ("with a premise", lambda t, s=stated: re.sub(s, r"\1⊥ → \2", t, count=1)),
-            ("over a richer contract", lambda t, s=stated: re.sub(s, lambda m: m[1] + re.sub(r"(\S+\.Post)", r"(λ κs a u x. \1 κs a u x × More)", m[2], count=1), t, count=1)),
-            ("by another `OneAnswer`", lambda t, s=stated: re.sub(s, r"\1fake.\2", t, count=1)),
-            ("by an `OneAnswer` from elsewhere", lambda t: t.replace("Rattle.words.proofs.OneAnswer.{", "Rattle.words.proofs.Lists.{", 1)),
-            ("with a view that forgets", lambda t, s=stated: re.sub(s, lambda m: m[1] + re.sub(r"λ κs u x\. (.*)\)$", r"λ κs u x. let w = \1 in 0)", m[2], flags=re.S), t, count=1)),
-        ):
-            yield f"a `{only}` {what}", "public-functions.py", proofs, change
-        if crate != "probe":
-            says = name.replace("_", "-") + "-says"
-            yield (
-                f"no `{says}`",
-                "public-functions.py",
-                proofs,
-                lambda t, says=says: t.replace(f"pub {says} :", f"pub not-{says} :", 1),
-            )
-        yield (
-            f"a `{only}` that sees no buffer",
-            "public-functions.py",
-            proofs,
-            lambda t, only=only: re.sub(rf"(pub {only} :.*?λ κs u x\.)[^\n]*\)\n", r"\1 u)\n", t, count=1, flags=re.S),
-        )
-    yield (
-        "a contract written out that is not tied to the code",
-        "public-functions.py",
-        "crates/pen/proofs/LineContract.antt",
-        lambda t: t.replace("pub post-is :", "pub post-was :", 1),
-    )
-    yield (
-        "a promise kept by a theorem in a comment",
-        "check-promises.py",
-        "crates/site/proofs/Trail.antt",
-        lambda t: t.replace("pub trail-met :", "{- pub trail-met :", 1) + "-}\n",
-    )
-    yield (
-        "a file that the demands rest on and the reading list has not",
-        "check-reading.py",
-        "README.md",
-        lambda t: t.replace("`crates/host/specs/Call.antt`", "the host's", 1),
-    )
+        for what, where, change in contract_damages(full):
+            yield what, "public-functions.py", where, change
     for what, where, old, new in FIGURES:
-        yield what, "check-figures.py", where, lambda t, old=old, new=new: t.replace(old, new, 1)
-    yield (
-        "a long line in a definition",
-        "check-page.py",
-        "crates/site/specs/Site.antt",
-        lambda t: t + "-- " + "a" * 150 + "\n",
-    )
-    yield (
-        "a long proof file",
-        "check-page.py",
-        "crates/join/proofs/Causes.antt",
-        lambda t: t + "\n" * 200,
+        yield what, "check-figures.py", where, swapped(old, new)
+    theorem = "pub trail-met :"
+    yield from (
+        ("a contract written out that is not tied to the code", "public-functions.py",
+         "crates/pen/proofs/LineContract.antt", swapped("pub post-is :", "pub post-was :")),
+        ("a promise kept by a theorem in a comment", "check-promises.py",
+         "crates/site/proofs/Trail.antt", lambda t: t.replace(theorem, "{- " + theorem, 1) + "-}\n"),
+        ("a file that the demands rest on and the reading list has not", "check-reading.py",
+         "README.md", swapped("`crates/host/specs/Call.antt`", "the host's")),
+        ("a long line in a definition", "check-page.py",
+         "crates/site/specs/Site.antt", lambda t: t + "-- " + "a" * 150 + "\n"),
+        ("a long proof file", "check-page.py", "crates/join/proofs/Causes.antt", lambda t: t + "\n" * 200),
     )
 
 
@@ -141,8 +122,9 @@ def main(arguments):
         for page in ("README.md", "CONTRIBUTING.md", "CHANGELOG.md", "Makefile"):
             shutil.copy(root / page, copy / page)
         for check in CHECKS:
-            if refused(check, copy):
-                print(f"{check} refuses the copy as it is")
+            said = verdict(check, copy)
+            if said != "passed":
+                print(f"the copy as it is: {check} {said}")
                 wrong += 1
         for what, check, where, change in damages():
             tried += 1
@@ -154,8 +136,9 @@ def main(arguments):
                 wrong += 1
                 continue
             file.write_text(damaged, encoding="utf-8")
-            if not refused(check, copy):
-                print(f"{what}: {check} did not notice")
+            said = verdict(check, copy)
+            if said != "refused":
+                print(f"{what}: {check} {said}")
                 wrong += 1
             file.write_text(text, encoding="utf-8")
     print(f"damaged copies: {tried} tried, {wrong} problems")

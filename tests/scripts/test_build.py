@@ -16,23 +16,30 @@ from pathlib import Path
 ROOT = Path(__file__).resolve().parent.parent.parent
 PROGRESS = re.compile(r"  (\d+) of (\d+) crates proved, (\d+) s so far(, \w+ the last)?")
 
-# Says what `rt` says, and makes what it makes; BREAK names a crate that is not proved, CALLS is where calls are noted.
+# Says what `rt` says, and makes what it makes. Like `rt` it leaves a crate alone that has not changed since it was proved,
+# whether its product is there or not. BREAK names a crate that is not proved, CALLS is where calls are noted, MEANWHILE
+# is done while the program is proved.
 STAND_IN = """#!/bin/bash
 if [ "$1" = version ]; then echo "kit ${KIT:-1}"; exit; fi
 echo "$*" >> "$CALLS"
 command=$1
 shift
-mkdir -p target/bin target/staticlib
+mkdir -p target/bin target/staticlib target/stamp
 for crate in "$@"; do
+    sum=$(find "crates/$crate" -type f -print0 | sort -z | xargs -0 cat | sha256sum)
+    if [ "$command" = check ] && [ "$sum" = "$(cat "target/stamp/$crate" 2> /dev/null)" ]; then
+        echo "rt: $crate proved (unchanged since it was last proved)"
+        continue
+    fi
     echo "fn $crate::first: proved"
     if [ "$crate" = "${BREAK:-}" ]; then
         echo "$crate: the prover's words" >&2
         echo "rt: $crate NOT PROVED (exit 1, 0 s)"
         exit 1
     fi
-    [ "$command" = staticlib ] || echo "rt: $crate proved (0 s)"
+    [ "$command" = staticlib ] || { echo "rt: $crate proved (0 s)"; echo "$sum" > "target/stamp/$crate"; }
     case $command-$crate in
-    check-sazamkhri) echo made > target/bin/sazamkhri ;;
+    check-sazamkhri) [ -n "${MAKES_NOTHING:-}" ] || echo made > target/bin/sazamkhri; eval "${MEANWHILE:-}" ;;
     staticlib-*) echo made > "target/staticlib/lib$crate.a" ;;
     esac
 done
@@ -126,10 +133,53 @@ class WithStandIn(unittest.TestCase):
             change()
             self.build("program")
             self.assertIn("check sazamkhri", self.called(), what)
+            self.assertEqual((self.place / "target" / "bin" / "sazamkhri").read_text(), "made\n", what)
             self.build("program")
             self.assertEqual(self.called(), [], what)
         self.build("program", KIT="2")
         self.assertIn("check sazamkhri", self.called(), "another kit")
+
+    def test_an_edit_while_it_is_proved(self):
+        run = self.build("program", MEANWHILE="echo later >> crates/order/src/lib.rt")
+        self.assertEqual(run.returncode, 1)
+        self.assertIn("changed while they were proved", run.stderr)
+        self.assertEqual(self.build("program").returncode, 0)
+        self.assertIn("check sazamkhri", self.called())
+
+    def test_nothing_is_made(self):
+        run = self.build("program", MAKES_NOTHING="1")
+        self.assertEqual(run.returncode, 1)
+        self.assertIn("rt has not made target/bin/sazamkhri", run.stderr)
+
+    def test_nobody_can_be_told(self):
+        for end in ("2>&-", "2>/dev/full"):
+            path = f"{self.place / 'tools'}:{os.environ['PATH']}"
+            run = subprocess.run(
+                f"'{self.place}/scripts/build.py' program {end}", shell=True, stdout=subprocess.PIPE,
+                env={**os.environ, "PATH": path, "CALLS": str(self.calls)},
+            )
+            self.assertEqual((run.returncode, run.stdout), (0, b""))
+            self.assertTrue((self.place / "target" / "made" / "program").exists())
+            shutil.rmtree(self.place / "target")
+
+    def test_files_that_cannot_be_used(self):
+        for change, words in (
+            (lambda: (self.place / "target").write_text("a file"), "Cannot build here"),
+            (lambda: (self.place / "crates.txt").write_text("order:\n"), "crates.txt does not list sazamkhri"),
+            (lambda: (self.place / "crates.txt").write_bytes(b"\xff: a\n"), "Cannot build here"),
+            (lambda: (self.place / "crates.txt").unlink(), "crates.txt"),
+        ):
+            change()
+            run = self.build("program")
+            self.assertEqual(run.returncode, 2, run.stderr)
+            self.assertIn(words, run.stderr.splitlines()[-1])
+            self.assertNotIn("Traceback", run.stderr)
+            if (self.place / "target").is_file():
+                (self.place / "target").unlink()
+
+    def test_a_product_named_twice(self):
+        run = self.build("program", "program")
+        self.assertTrue(run.stderr.startswith("Proving and building the program: "), run.stderr)
 
     def test_a_crate_that_it_does_not_need_may_change(self):
         self.build("program")
@@ -152,6 +202,21 @@ class WithStandIn(unittest.TestCase):
 
 
 class WithTheKit(unittest.TestCase):
+    @classmethod
+    def setUpClass(cls):
+        subprocess.run([ROOT / "scripts/build.py", "program", "host"], check=True, stderr=subprocess.DEVNULL)
+
+    def test_another_program_in_its_place_is_not_run(self):
+        with tempfile.TemporaryDirectory() as name:
+            place = Path(name)
+            copy_of(place, ["crates", "crates.txt", "scripts", "Makefile", "examples"])
+            copy_of(place, [f"target/{part}" for part in ("bin", "rlib", "stamp", "log", "made")])
+            program = place / "target/bin/sazamkhri"
+            program.write_text("#!/bin/sh\necho k=1\n")
+            run = make(place, "list", "SHEET=examples/three.sheet")
+            self.assertEqual((run.returncode, run.stdout), (0, (ROOT / "examples/three.listing").read_text()))
+            self.assertEqual(program.read_bytes(), (ROOT / "target/bin/sazamkhri").read_bytes())
+
     def test_a_wrong_proof_is_shown_and_nothing_is_listed(self):
         edit = (ROOT / "crates/join/must-fail/work_area.edit").read_text(encoding="utf-8")
         old, new = (re.search(rf"^{word}: (.*)$", edit, re.M)[1] for word in ("old", "new"))
@@ -170,7 +235,6 @@ class WithTheKit(unittest.TestCase):
         self.assertRegex(run.stderr, r"proofs/\S+\.antt:\d+:\d+")
 
     def test_later_calls_print_the_listing_alone_within_a_second(self):
-        self.assertEqual(make(ROOT, "program").returncode, 0)
         times = []
         for _ in range(5):
             began = time.monotonic()

@@ -2,6 +2,7 @@
 """Tries the gate itself: it counts what passed and what failed, goes on behind a failure, and keeps its logs; the check of
 the stored sheets notices what it should; and README shows what is printed.
 """
+import os
 import re
 import shutil
 import subprocess
@@ -34,13 +35,18 @@ class Steps(unittest.TestCase):
             ("step proofs sh -c 'echo 119 passed, 0 failed; exit 1'", 1, "119 passed, 1 failed"),
             ("step a no-such-command", 1, "0 passed, 1 failed"),
             ("step a sh -c 'kill -9 $$'", 1, "0 passed, 1 failed"),
+            ("step proofs echo 0 passed, 0 failed", 1, "0 passed, 1 failed"),
+            ("step proofs echo 3 passed, 2 failed", 1, "3 passed, 2 failed"),
+            ("step proofs echo 09 passed, 0 failed", 0, "9 passed, 0 failed"),
+            ("step nothing", 1, "0 passed, 1 failed"),
             ("", 1, "0 passed, 0 failed"),
         ):
             self.assertEqual(self.gate(steps)[:2], (status, line), steps)
 
     def test_says_what_failed_and_goes_on(self):
-        _, _, said = self.gate("step 'first one' false; step second echo still here")
+        _, _, said = self.gate("step 'first one' false; step second echo still here; step third echo 3 passed, 2 failed")
         self.assertIn("== first one: FAILED", said)
+        self.assertIn("failed: third", said)
         self.assertIn("failed: first one", said)
         self.assertIn("still here", said)
 
@@ -49,6 +55,35 @@ class Steps(unittest.TestCase):
         logs = sorted((self.place / "logs").iterdir())
         self.assertEqual([log.name for log in logs], ["01-one-of-two.log", "02-two.log"])
         self.assertEqual([log.read_text() for log in logs], ["first\n", "second\n"])
+        self.gate("step other echo again")
+        self.assertEqual([log.name for log in (self.place / "logs").iterdir()], ["01-other.log"])
+
+    def test_no_room_for_logs(self):
+        script = f". '{ROOT}/scripts/steps.sh'\nstep a true\ntally '{self.place}/logs'\n"
+        run = subprocess.run(["bash", "-c", script], capture_output=True, env={**os.environ, "TMPDIR": "/nowhere"})
+        self.assertNotEqual(run.returncode, 0)
+        self.assertEqual(run.stdout, b"")
+
+
+class Runner(unittest.TestCase):
+    """scripts/run-tests.py passes a file of tests only if it tests something."""
+
+    def run_file(self, text):
+        with tempfile.TemporaryDirectory() as folder:
+            file = Path(folder) / "test_some.py"
+            file.write_text(text)
+            run = subprocess.run(["python3", ROOT / "scripts/run-tests.py", file], capture_output=True, text=True)
+        return run.returncode, run.stdout
+
+    def test_what_passes(self):
+        case = "import unittest\nclass T(unittest.TestCase):\n    def test_one(self):\n        "
+        self.assertEqual(self.run_file(case + "pass\n")[0], 0)
+        for bad in (case + "self.fail()\n", case + "self.skipTest('why')\n", case.replace("test_", "tried_") + "pass\n", ""):
+            self.assertEqual(self.run_file(bad)[0], 1, bad)
+        two = case + "pass\n    def test_two(self):\n        self.skipTest('no root')\n"
+        status, said = self.run_file(two)
+        self.assertEqual(status, 0)
+        self.assertRegex(said, r"NOT TRIED: .*test_two.*: no root")
 
 
 class Examples(unittest.TestCase):

@@ -609,14 +609,14 @@ class CheckLesson(Case):
         self.refused(run("check-lesson.py", "no page"), 2, "no page: cannot be read")
 
     def test_default_pages(self):
-        """A copy of the script takes the pages of its own root: the lesson, and the catalogues if they are there."""
+        """A copy of the script takes the pages of its own root: the lesson and the catalogues, which must be there."""
         (self.folder / "docs").mkdir()
         (self.folder / "scripts").mkdir()
         copy = shutil.copy(SCRIPTS / "check-lesson.py", self.folder / "scripts")
         good, bad = self.GOOD, self.GOOD.replace("two\n```", "three\n```")
         for name, page, status in (
             (None, None, 2),
-            ("LESSON.md", good, 0),
+            ("LESSON.md", good, 2),
             ("CATALOGUES.md", bad, 1),
             ("CATALOGUES.md", good, 0),
             ("LESSON.md", bad, 1),

@@ -29,7 +29,7 @@ def build():
     """Builds the trials; gives what is wrong, or None."""
     for needed in (PROGRAM, LIBRARIES / "libprobe.a", LIBRARIES / "libhost.a"):
         if not needed.is_file():
-            return f"{needed} is not there. Build it first: make program libraries"
+            return f"{needed} is not there. Build it first: scripts/build.py program host probe"
     places = {"CARGO_TARGET_DIR": str(ROOT / "target" / "trials"), "SAZAMKHRI_LIB": str(LIBRARIES)}
     command = ["cargo", "build", "--release", "--quiet", "--offline"]
     done = subprocess.run(command, cwd=ROOT / "tests", env={**os.environ, **places}, capture_output=True, text=True)
@@ -185,7 +185,7 @@ class Counts(Trials):
         self.assertEqual(counts(output), (180, 180))
         for kind in ("join", "read", "write", "doubled", "host", "program"):
             self.assertRegex(output, rf"(?m)^{kind}, random: 30 cases ")
-            self.assertRegex(output, rf"(?m)^{kind}: \d+ \w+ by name ")
+            self.assertRegex(output, rf"(?m)^{kind}: [1-9]\d* \w+ by name ")
 
     def test_threads_do_not_matter(self):
         last = {trials("host", "n=5000", "seed=3", f"jobs={jobs}")[1].splitlines()[-1] for jobs in (1, 2, 7)}

@@ -442,6 +442,12 @@ pub fn listings() -> Vec<ListingCase> {
 mod tests {
     use super::*;
 
+    /// A list that has lost its cases would agree with everything.
+    #[test]
+    fn there_are_cases_by_name() {
+        assert!(joins().len() >= 51 && readings().len() >= 76 && listings().len() >= 25);
+    }
+
     #[test]
     fn the_paper_by_brute_force_gives_every_named_join() {
         for case in joins() {

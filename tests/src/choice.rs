@@ -56,7 +56,9 @@ const KEYS: &[&str] = &["n", "seed", "trial", "jobs", "path"];
 fn set(choice: &mut Choice, key: &str, value: &str) -> Result<(), String> {
     let number = |least: u64, most: u64| match value.parse::<u64>() {
         Ok(number) if (least..=most).contains(&number) && value.bytes().all(|b| b.is_ascii_digit()) => Ok(number),
-        _ => Err(format!("{key}={value}: write a whole number of {least} to {most}, in digits alone, as {key}=1000")),
+        _ => {
+            Err(format!("{key}={value}: write a whole number of {least} to {most}, in digits alone, as {key}={least}"))
+        }
     };
     match key {
         _ if value.is_empty() => {}

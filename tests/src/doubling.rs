@@ -1,7 +1,7 @@
 //! The user's law: give every type a second code, and the ratios do not move. Each code c becomes 2c and 2c + 1, so
 //! that every context has twice as many types, and every pair shares twice as many.
 
-use crate::random::Contexts;
+use crate::random::{large_site, small_site, Contexts, Random, KINDS};
 
 /// What a site may have so that it can be doubled within the limits of the join.
 pub const MOST_CODES: usize = 2_048;
@@ -56,6 +56,18 @@ pub fn can_be_doubled(mut site: Contexts) -> Contexts {
     site
 }
 
+/// A site to be doubled: of this large kind, or a small one.
+pub fn some_site(random: &mut Random, large: Option<usize>) -> Contexts {
+    let site = match large {
+        Some(kind) => large_site(random, kind),
+        None => {
+            let kind = random.below(KINDS);
+            small_site(random, kind)
+        }
+    };
+    can_be_doubled(site)
+}
+
 /// The number of events of the doubled site, from that of the site itself, the sizes of its contexts, and the
 /// similarity of the k-th listed pair as (shared, union), if k are found.
 ///
@@ -75,7 +87,7 @@ pub fn events_doubled(events: u64, sizes: &[usize], cut_off: Option<(usize, usiz
 mod tests {
     use super::*;
     use crate::paper::{self, Survey};
-    use crate::random::{large_site, slices, small_site, tables, Random, KINDS, LARGE_KINDS};
+    use crate::random::{slices, tables, LARGE_KINDS};
 
     #[test]
     fn each_type_gets_a_second_code() {
@@ -92,6 +104,19 @@ mod tests {
         // 2,080 of 4,160 codes are left by every other type, and 32 of them are too many.
         let many = can_be_doubled(vec![(0..32).collect(); 130]);
         assert_eq!((many.concat().len(), many[127].len(), many[128].len()), (2048, 16, 0));
+    }
+
+    /// A law of pairs is not tried by sites that have none.
+    #[test]
+    fn most_sites_have_pairs_to_move() {
+        let mut random = Random::new(1);
+        let sites: Vec<Contexts> = (0..600).map(|_| some_site(&mut random, None)).collect();
+        let pairs = |least: usize| sites.iter().filter(|site| Survey::new(&slices(site)).sharing() >= least).count();
+        assert!(pairs(1) > 400 && pairs(2) > 300 && pairs(20) > 50, "{} {} {}", pairs(1), pairs(2), pairs(20));
+        for kind in 0..LARGE_KINDS {
+            let site = some_site(&mut random, Some(kind));
+            assert!(kind == 5 || Survey::new(&slices(&site)).sharing() > 0, "large kind {kind}");
+        }
     }
 
     #[test]

@@ -6,10 +6,10 @@ use super::join::{ample_rooms, Trial};
 use super::{Choice, Kind};
 use crate::cases;
 use crate::damage::{all_sites, shown, Tables};
-use crate::doubling::{can_be_doubled, doubled, events_doubled};
+use crate::doubling::{can_be_doubled, doubled, events_doubled, some_site};
 use crate::ffi::JoinBuffers;
 use crate::paper::{self, Rooms, Survey};
-use crate::random::{large_kind, large_site, seed_of, slices, small_site, tables, Contexts, Random, KINDS};
+use crate::random::{large_kind, seed_of, slices, tables, Random};
 use crate::sheet;
 use crate::tally::Outcome;
 
@@ -91,20 +91,9 @@ fn differ<T: PartialEq + std::fmt::Debug>(name: &str, expected: T, got: T) -> Re
     }
 }
 
-fn some_site(random: &mut Random, number: u64) -> Contexts {
-    let site = match large_kind(number, EVERY) {
-        Some(kind) => large_site(random, kind),
-        None => {
-            let kind = random.below(KINDS);
-            small_site(random, kind)
-        }
-    };
-    can_be_doubled(site)
-}
-
 fn trial(choice: &Choice, number: u64) -> Result<Outcome, String> {
     let mut random = Random::new(seed_of(choice.seed, number));
-    let site = some_site(&mut random, number);
+    let site = some_site(&mut random, large_kind(number, EVERY));
     keeps_the_law(&mut random, &site).map(|()| Some(0))
 }
 
