@@ -210,7 +210,7 @@ def clear(product):
 def prove(products, uses):
     """Has rt prove and build these products; shows its words if it cannot."""
     names = " and ".join(PRODUCTS[p][3] for p in products)
-    say(f"Proving and building {names}: up to three minutes on two cores, and only this once.\n")
+    say(f"Proving and building {names}: about four minutes on two cores, and only this once.\n")
     meter, log = Meter(len(needed([crate_of(p) for p in products], uses))), []
     status = 0
     for words in commands(products, uses):

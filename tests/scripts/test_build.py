@@ -81,7 +81,7 @@ class WithStandIn(unittest.TestCase):
         run = self.build("program")
         first, *rest = run.stderr.splitlines()
         self.assertEqual((run.returncode, run.stdout), (0, ""))
-        self.assertRegex(first, r"^Proving and building the program: .*three minutes.*once")
+        self.assertRegex(first, r"^Proving and building the program: .*four minutes.*once")
         found = [PROGRESS.fullmatch(line) for line in rest]
         self.assertTrue(all(found), run.stderr)
         self.assertEqual([int(m[1]) for m in found], list(range(1, len(found) + 1)))
