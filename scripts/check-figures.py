@@ -11,7 +11,7 @@ import sys
 from pathlib import Path
 
 PAGES = ("README.md", "CONTRIBUTING.md", "CHANGELOG.md", "docs/LESSON.md", "docs/CATALOGUES.md", "docs/DECISIONS.md",
-         "docs/PROMISES.md", "docs/BENCHMARKS.md", "examples/refused/README.md", "tests/README.md")
+         "docs/PROMISES.md", "docs/BENCHMARKS.md", "examples/refused/README.md", "tests/README.md", "scripts/README.md")
 # What a page may name although it is made only later, or stands for any name.
 MADE = ("target/", "crates/NAME", "crates/*", "docs/landings", "examples/refused/NAME")
 
@@ -124,10 +124,17 @@ def names(root):
     return wrong
 
 
+def scripts(root):
+    """The scripts that are there are those that scripts/README.md tells of."""
+    there = {p.name for p in (root / "scripts").iterdir() if p.suffix in (".py", ".sh")}
+    told = set(Text(root, "scripts/README.md").find(r"`([\w-]+\.(?:py|sh))`"))
+    return [f"scripts/README.md: {name} is told of or there, not both" for name in sorted(there ^ told)]
+
+
 def main(arguments):
     root = Path(arguments[0]) if arguments else Path(__file__).resolve().parent.parent
     wrong = []
-    checks = (version, refusals, limits, ratios, names)
+    checks = (version, refusals, limits, ratios, names, scripts)
     for check in checks:
         try:
             wrong += check(root)

@@ -40,7 +40,8 @@ def problem(commands, expected):
     # A reader types the commands in a shell of their own, not below the `make` that runs this check.
     own = {name: value for name, value in os.environ.items() if not name.startswith(("MAKE", "MFLAGS"))}
     run = subprocess.run(
-        ["bash", "-e", "-o", "pipefail", "-c", commands], cwd=ROOT, env=own, stdin=subprocess.DEVNULL, capture_output=True
+        ["bash", "-e", "-o", "pipefail", "-c", commands],
+        cwd=ROOT, env=own, stdin=subprocess.DEVNULL, capture_output=True,
     )
     if run.returncode == 0 and run.stdout == expected:
         return None

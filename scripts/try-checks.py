@@ -33,6 +33,7 @@ FIGURES = (
     ("a script that is not there", "README.md", "`scripts/list.py", "`scripts/lists.py"),
     ("a target that is not there", "CONTRIBUTING.md", "`make bench`", "`make benches`"),
     ("a link that leads nowhere", "README.md", "](docs/LESSON.md)", "](docs/LESSONS.md)"),
+    ("a script that nobody is told of", "scripts/README.md", "`who-moves.py`", "who-moves"),
 )
 
 
