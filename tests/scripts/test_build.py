@@ -6,10 +6,10 @@ what is built here, and on this folder itself.
 """
 import os
 import re
+import resource
 import shutil
 import subprocess
 import tempfile
-import time
 import unittest
 from pathlib import Path
 
@@ -235,11 +235,13 @@ class WithTheKit(unittest.TestCase):
         self.assertRegex(run.stderr, r"proofs/\S+\.antt:\d+:\d+")
 
     def test_later_calls_print_the_listing_alone_within_a_second(self):
+        # Processor time: on a machine that does other work besides, the clock says little.
         times = []
         for _ in range(5):
-            began = time.monotonic()
+            before = resource.getrusage(resource.RUSAGE_CHILDREN)
             run = make(ROOT, "list", "SHEET=examples/three.sheet")
-            times.append(time.monotonic() - began)
+            after = resource.getrusage(resource.RUSAGE_CHILDREN)
+            times.append(after.ru_utime + after.ru_stime - before.ru_utime - before.ru_stime)
             self.assertEqual((run.returncode, run.stderr), (0, ""))
             self.assertEqual(run.stdout, (ROOT / "examples/three.listing").read_text())
         self.assertLess(min(times), 1.0)
