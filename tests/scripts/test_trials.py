@@ -234,6 +234,39 @@ class Words(Trials):
         self.assertEqual((status, errors, counts(output)), (0, "", (5, 5)), output)
 
 
+class Make(unittest.TestCase):
+    """`make trials`, as a user types it."""
+
+    @classmethod
+    def setUpClass(cls):
+        command = [ROOT / "scripts" / "build.py", "program", "host", "probe"]
+        subprocess.run(command, check=True, stderr=subprocess.DEVNULL)
+
+    def make(self, *words):
+        own = {name: value for name, value in os.environ.items() if not name.startswith(("MAKE", "MFLAGS"))}
+        return subprocess.run(["make", "trials", *words], cwd=ROOT, env=own, capture_output=True, text=True, timeout=300)
+
+    def test_one_kind(self):
+        done = self.make("KIND=host", "N=7", "SEED=5", "JOBS=1")
+        self.assertEqual((done.returncode, counts(done.stdout)), (0, (7, 7)), done.stderr)
+
+    def test_all_kinds(self):
+        done = self.make("N=3")
+        self.assertEqual((done.returncode, counts(done.stdout)), (0, (18, 18)), done.stderr)
+
+    def test_one_trial_again(self):
+        done = self.make("KIND=join", "SEED=7", "TRIAL=123")
+        self.assertEqual((done.returncode, counts(done.stdout)), (0, (1, 1)), done.stderr)
+        self.assertIn("trial 123 of seed 7 agrees", done.stdout)
+
+    def test_words_that_a_shell_could_take_for_its_own(self):
+        with tempfile.TemporaryDirectory() as folder:
+            for word in ("SEED=; touch '{}/a'", "N=$(touch '{}/a')", "KIND=host'; touch '{}/a", "JOBS=`touch '{}/a'`"):
+                done = self.make("KIND=host", word.format(folder), "TRIAL=1")
+                self.assertNotEqual(done.returncode, 0, word)
+                self.assertEqual(os.listdir(folder), [], word)
+
+
 def main(words):
     return not unittest.main(argv=[sys.argv[0], *words], exit=False).result.wasSuccessful()
 
