@@ -44,7 +44,7 @@ install:
 uninstall:
 	host/install.sh --remove
 
-#: make test                  the whole gate: every proof, every check; about 20 minutes
+#: make test                  the whole gate: every proof, every check; 20 to 25 minutes
 test:
 	scripts/test.sh
 

@@ -1,6 +1,6 @@
 #!/usr/bin/env python3
-"""Checks that what is told in more than one place is told alike: version, refusals, limits, ratios, and the names of
-files and commands.
+"""Checks that what is told in more than one place is told alike: version, refusals, limits, ratios, times, and the names
+of files and commands.
 
     scripts/check-figures.py [ROOT]
 
@@ -104,6 +104,22 @@ def ratios(root):
     return wrong
 
 
+def times(root):
+    """How long the first run and the gate take."""
+    readme, makefile = Text(root, "README.md"), Text(root, "Makefile")
+    page, build = Text(root, "CONTRIBUTING.md"), Text(root, "scripts/build.py")
+    wrong = differ("minutes of the first run", {
+        "README.md": readme.find(r"builds the program, which takes (about \w+ minutes)")[0],
+        "CONTRIBUTING.md": page.find(r"builds what they need first \| (about \w+ minutes), once")[0],
+        "scripts/build.py": build.find(r"building \{names\}: (about \w+ minutes)")[0],
+    })
+    return wrong + differ("minutes of the gate", {
+        "README.md": readme.find(r"It takes (\d+ to \d+ minutes) on two cores")[0],
+        "CONTRIBUTING.md": page.find(r"\| the gate \| (\d+ to \d+ minutes) \|")[0],
+        "Makefile": makefile.find(r"^#: make test .*; (\d+ to \d+ minutes)$")[0],
+    })
+
+
 def names(root):
     """Every file and every `make` target that a page names is there."""
     targets = set(Text(root, "Makefile").find(r"^([a-z]+):"))
@@ -134,7 +150,7 @@ def scripts(root):
 def main(arguments):
     root = Path(arguments[0]) if arguments else Path(__file__).resolve().parent.parent
     wrong = []
-    checks = (version, refusals, limits, ratios, names, scripts)
+    checks = (version, refusals, limits, ratios, times, names, scripts)
     for check in checks:
         try:
             wrong += check(root)

@@ -30,6 +30,8 @@ FIGURES = (
     ("another work area in README", "README.md", "join | 10,240 words", "join | 10,241 words"),
     ("another ratio in README", "README.md", "About 0.3 to", "About 0.2 to"),
     ("another count of host rows that end in 8", "docs/BENCHMARKS.md", "**10 of the 18 rows", "**9 of the 18 rows"),
+    ("another time of the first run", "README.md", "about four minutes", "about two minutes"),
+    ("another time of the gate", "Makefile", "20 to 25 minutes", "10 to 15 minutes"),
     ("a script that is not there", "README.md", "`scripts/list.py", "`scripts/lists.py"),
     ("a target that is not there", "CONTRIBUTING.md", "`make bench`", "`make benches`"),
     ("a link that leads nowhere", "README.md", "](docs/LESSON.md)", "](docs/LESSONS.md)"),
