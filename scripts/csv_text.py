@@ -52,6 +52,29 @@ def say(words):
 
 
 @contextmanager
+def speaking_of(path, unit):
+    """A refusal that comes out of here is about this file, whose places count in this unit."""
+    try:
+        yield
+    except Refused as fault:
+        fault.said = fault.told(path, unit)
+        raise
+
+
+def status_of(work):
+    """Does the work, and gives the exit status; what went wrong is told."""
+    try:
+        work()
+        return 0
+    except Refused as fault:
+        say(fault.said)
+        return 1
+    except (Unreachable, KeyboardInterrupt) as fault:
+        say(str(fault) or "Stopped.")
+        return 2
+
+
+@contextmanager
 def at_file(path, deed):
     """Puts what the system says of a file into words."""
     try:

@@ -14,8 +14,8 @@ import os
 import re
 import sys
 
-from csv_text import DELIMITERS, Refused, Unreachable
-from csv_text import at_file, counted, name_in, read_bytes, rows_of, say
+from csv_text import DELIMITERS, Refused
+from csv_text import at_file, counted, name_in, read_bytes, rows_of, speaking_of, status_of
 from listings import HEADS, NUMBER, NoListing, listing_in
 from shown_text import width
 
@@ -86,24 +86,21 @@ def write(data):
             data = data[os.write(1, data) :]
 
 
+def show(call):
+    """Prints the listing with the names."""
+    with speaking_of(call.names, "line"):
+        names = names_in(read_bytes(call.names))
+    with speaking_of("the listing" if call.listing == "-" else call.listing, "line"):
+        text = table(names, read_listing(0 if call.listing == "-" else call.listing))
+    write(text.encode("utf-8"))
+
+
 def main(arguments):
     parser = argparse.ArgumentParser(description="Prints a listing with names.", allow_abbrev=False)
     parser.add_argument("names", metavar="NAMES.csv")
     parser.add_argument("listing", metavar="LISTING", nargs="?", default="-")
     call = parser.parse_args(arguments)
-    file = call.names
-    try:
-        names = names_in(read_bytes(call.names))
-        file = "the listing" if call.listing == "-" else call.listing
-        listing = read_listing(0 if call.listing == "-" else call.listing)
-        write(table(names, listing).encode("utf-8"))
-        return 0
-    except Refused as fault:
-        say(fault.told(file, "line"))
-        return 1
-    except (Unreachable, KeyboardInterrupt) as fault:
-        say(str(fault) or "Stopped.")
-        return 2
+    return status_of(lambda: show(call))
 
 
 if __name__ == "__main__":

@@ -23,7 +23,7 @@ import unicodedata
 from collections import Counter
 
 from csv_text import DELIMITERS, Refused, Unreachable
-from csv_text import at_file, counted, letters, name_in, read_bytes, rows_of, say, shown, trimmed
+from csv_text import at_file, counted, letters, name_in, read_bytes, rows_of, say, shown, speaking_of, status_of, trimmed
 
 # The sheet's own limits (README.md, 'Limits').
 MOST_PAIRS, MOST_CONTEXTS, MOST_TYPES, MOST_CODES = 64, 256, 4096, 4096
@@ -221,7 +221,8 @@ def site_of(call):
 def make(call):
     """Makes both files, and says so."""
     sheet, names = call.name + ".sheet", call.name + ".names.csv"
-    site, notes = site_of(call)
+    with speaking_of(call.catalogue, "row"):
+        site, notes = site_of(call)
     for path in (sheet, names):
         if os.path.exists(path) and os.path.samefile(path, call.catalogue):
             raise Unreachable(f"{path}: this is the catalogue itself. Choose another NAME.")
@@ -259,15 +260,7 @@ def call_of(arguments):
 
 def main(arguments):
     call = call_of(arguments)
-    try:
-        make(call)
-        return 0
-    except Refused as fault:
-        say(fault.told(call.catalogue, "row"))
-        return 1
-    except (Unreachable, KeyboardInterrupt) as fault:
-        say(str(fault) or "Stopped.")
-        return 2
+    return status_of(lambda: make(call))
 
 
 if __name__ == "__main__":
