@@ -72,7 +72,11 @@ enum sazamkhri_refusal {
     /* the sheet has over 24,576 bytes, over 256 contexts or over 4,096 codes */
     SAZAMKHRI_SHEET_TOO_LARGE = 11,
     /* the listing does not fit the buffer */
-    SAZAMKHRI_TEXT_TOO_SMALL = 12
+    SAZAMKHRI_TEXT_TOO_SMALL = 12,
+    /* a context number that is not below the number of contexts */
+    SAZAMKHRI_NO_SUCH_CONTEXT = 13,
+    /* more entries than the list holds, or an entry that no list has */
+    SAZAMKHRI_LIST_BROKEN = 17
 };
 
 /*
@@ -121,6 +125,10 @@ enum sazamkhri_refusal {
  *   its own; they may share one sheet.
  */
 uint64_t sazamkhri_listing(const uint8_t *sheet, size_t sheet_len, uint8_t *text, size_t text_len);
+
+/* One cell of the heat map. */
+uint64_t sazamkhri_cell(uint16_t contexts, const uint16_t *list, size_t list_len, size_t entries, uint16_t first,
+                        uint16_t second, double *value);
 
 #ifdef __cplusplus
 }
