@@ -8,3 +8,11 @@ pub mod Rules
 pub mod Accepting
 -- what the contract says, and one answer only
 pub mod Only
+-- the cause of each refusal, both ways
+pub mod Causes
+-- the same of a call
+pub mod Refusing
+-- worked cells
+pub mod Examples
+-- cells turned round, and the cells of a join's list
+pub mod Mapped
