@@ -1,7 +1,8 @@
--- What the package promises: the three demands, each of every call that meets the contract in the code.
+-- What the package promises: the three demands and the heat map, each of every call that meets the contract in the code.
 -- `Post` is a call's contract itself, as it is read from the code: of its arguments a, its answer u and its buffers x at exit.
 -- `Says n ps r Post C` is: every call that meets that contract has C. That the code meets its contracts is what the kit checks.
 use mathlib.Core.List.{[], _∷_}
+use mathlib.Core.Path.{sym, _∙_}
 use Prim.Native.Nat.{ℕ, _+_}
 use lib.ListN.{take}
 use contract.Lifetimes.{Lfts}
@@ -10,7 +11,7 @@ use borrow.Fn.Kinds.{Dens, resT, endedOf}
 use Rattle.words.proofs.OneAnswer.{Says}
 use Rattle.search.specs.Outcome.{Tells}
 use Rattle.join.proofs.Demands.{Demand-1, Demand-2, Demand-3, demand-1, demand-2, demand-3}
-use Rattle.join.proofs.Only.{callOf}
+use Rattle.join.proofs.Only.{callOf, join-says}
 use Rattle.join.proofs.join.Kinds as join-kinds
 use Rattle.join.proofs.join.Reads as join
 use Rattle.reader.specs.Calls.{Reads}
@@ -22,8 +23,15 @@ use Rattle.writer.proofs.Only.{write-says}
 use Rattle.writer.proofs.write.Kinds as write-kinds
 use Rattle.writer.proofs.write.Reads as write
 use Rattle.trip.proofs.Trips.{sheet-back, tables-trip}
+use Rattle.heat.specs.Answers.{cellOf}
+use Rattle.heat.proofs.Only.{cellCall, cell-of-says}
+use Rattle.heat.proofs.Mapped.{turned}
+use Rattle.heat.proofs.cell_of.Kinds as cell-of-kinds
+use Rattle.heat.proofs.cell_of.Reads as cell-of
 use Rattle.demands.specs.Sheets.{ReadCall, WriteCall, ReadRefuses, WriteRefuses, SheetBack, TablesBack}
+use Rattle.demands.specs.Heat.{CellRefuses, MapsList, BothWays}
 use Rattle.demands.proofs.Refusing.{read-refuses, write-refuses}
+use Rattle.demands.proofs.Mapping.{cell-refuses, map-cell}
 
 -- ---- which parameter is which
 
@@ -65,6 +73,10 @@ read-refusals κs a u x p = read-refuses (read-says κs a u x p)
 pub write-refusals : Says 3 write-kinds.ps write-kinds.r write.Post (λ κs a u x. WriteRefuses (writeCall κs a u x))
 write-refusals κs a u x p = write-refuses (write-says κs a u x p)
 
+-- one cell of the heat map: 13 and 17
+pub cell-refusals : Says 1 cell-of-kinds.ps cell-of-kinds.r cell-of.Post (λ κs a u x. CellRefuses (cellCall κs a u))
+cell-refusals κs a u x p = cell-refuses (cell-of-says κs a u x p)
+
 -- ---- demand 2: the list, and sheets and tables that come back
 
 -- the list of a join that tells f, e and m
@@ -94,3 +106,20 @@ module _ (κs κs′ : Lfts 3) (a : Dens κs read-kinds.ps) (b : Dens κs′ wri
 
 pub join-trail : Says 5 join-kinds.ps join-kinds.r join.Post (λ κs a u x. (f e m : ℕ) → Tells u 0 (f ∷ e ∷ m ∷ []) → Demand-3 (callOf κs a u x) e m)
 join-trail = demand-3
+
+-- ---- the heat map
+
+-- a join, and a cell of the list that it left
+pub heat-map : (κs : Lfts 5) (κs′ : Lfts 1) (a : Dens κs join-kinds.ps) (b : Dens κs′ cell-of-kinds.ps)
+    (u : resT join-kinds.r κs .Denot) (v : resT cell-of-kinds.r κs′ .Denot)
+    (x : AtExit (endedOf 5 join-kinds.ps join-kinds.r) κs) (y : AtExit (endedOf 1 cell-of-kinds.ps cell-of-kinds.r) κs′)
+    → join.Post κs a u x → cell-of.Post κs′ b v y → MapsList (callOf κs a u x) (cellCall κs′ b v)
+heat-map κs κs′ a b u v x y p q f e m told n l k A B = map-cell (join-says κs a u x p) told (cell-of-says κs′ b v y q) n l k A B
+
+-- two cells, of any list, with the two contexts the other way round
+pub both-ways : (κs κs′ : Lfts 1) (a : Dens κs cell-of-kinds.ps) (b : Dens κs′ cell-of-kinds.ps)
+    (u : resT cell-of-kinds.r κs .Denot) (v : resT cell-of-kinds.r κs′ .Denot)
+    (x : AtExit (endedOf 1 cell-of-kinds.ps cell-of-kinds.r) κs) (y : AtExit (endedOf 1 cell-of-kinds.ps cell-of-kinds.r) κs′)
+    → cell-of.Post κs a u x → cell-of.Post κs′ b v y → BothWays (cellCall κs a u) (cellCall κs′ b v)
+both-ways κs κs′ a b u v x y p q n l k s t A B =
+    p ∙ turned _ _ _ _ _ A B ∙ (λ i. cellOf (n i) (l i) (k i) (t i) (s i)) ∙ sym q

@@ -16,6 +16,7 @@ use Rattle.order.specs.Order.{_∈_, keep, kth}
 use Rattle.order.proofs.Lists.{cases, never}
 use Rattle.site.specs.Site.{Site, Rising, Pair, Shares, codesOf, sharedOf, unionOf, union}
 use Rattle.site.proofs.Contexts.{getD-in, first-bound, shared-le}
+use Rattle.tables.specs.declared.Check.the-variants as check
 use Rattle.tables.proofs.Meaning.{means-fine}
 use Rattle.entries.specs.Entries.{width, entryOf, entries}
 use Rattle.entries.specs.Listed.{entryWords}
@@ -25,7 +26,6 @@ use Rattle.heat.specs.Cells.{quotient, pairOf, names, entryFor, cellIn}
 use Rattle.heat.specs.Checks.{numbersCheck, countCheck, entryRule, ruleAt, cellCheck}
 use Rattle.heat.specs.Answers.{cellOf}
 use Rattle.heat.specs.declared.Cell.the-variants as cell
-use Rattle.heat.specs.declared.CellAnswer.the-variants as answer
 
 -- ---- both ways round
 
@@ -91,7 +91,8 @@ module _ {site : Site} (R : Rising site) {pairs : List Pair} (share : (p : Pair)
 
   -- a list that holds their entries
   module _ {list : List ℕ} {found : ℕ} (h : Holds list (entryWords site pairs)) (c : found ≡ length pairs) (room : width * found ≤ length list) where
-    back : entries found list ≡ map (entryOf site) pairs
+    -- they are read from it
+    pub back : entries found list ≡ map (entryOf site) pairs
     back = entries-held (map (entryOf site) pairs) (c ∙ sym (length-map pairs (entryOf site))) h
 
     kept-at : (i : ℕ) → i < found → ruleAt (length site) list i ≡ 0
@@ -104,8 +105,8 @@ module _ {site : Site} (R : Rising site) {pairs : List Pair} (share : (p : Pair)
         ap (entryRule (length site)) e ∙ rule-kept (getD pairs i any) (share (getD pairs i any) (getD-in pairs i any l′))
 
     -- no cell of two contexts of the site is refused
-    pub on-map : (a b : ℕ) → a < length site → b < length site → cellOf (length site) list found a b ≡ answer.Cell (cellIn a b (map (entryOf site) pairs))
-    unfolding cellOf cellCheck numbersCheck countCheck
-    on-map a b A B =
+    pub fine-on-map : (a b : ℕ) → a < length site → b < length site → cellCheck (length site) list found a b ≡ check.Fine
+    unfolding cellCheck numbersCheck countCheck
+    fine-on-map a b A B =
         let few : found ≤ length list / width = omega arith in
-        rw (lt-ltb a (length site) A, lt-ltb b (length site) B, le-ltb (length list / width) found few, means-fine (ruleAt (length site) list) 0 found zero-le (λ j x l. kept-at j l), back)
+        rw (lt-ltb a (length site) A, lt-ltb b (length site) B, le-ltb (length list / width) found few) (means-fine (ruleAt (length site) list) 0 found zero-le (λ j x l. kept-at j l))

@@ -1,0 +1,56 @@
+-- What the call for one cell owes: demand 1, its refusals; and the heat map, the cells of the list that a join left.
+use mathlib.Core.List.{[], _∷_}
+use mathlib.Core.Logic.{_↔_}
+use mathlib.Core.Path.{_≡_}
+use Prim.Native.Nat.{ℕ, _<_}
+use lib.ListN.{length}
+use Rattle.order.specs.Order.{_∈_}
+use Rattle.site.specs.Site.{Pair, sharedOf, unionOf}
+use Rattle.search.specs.Outcome.{Tells}
+use Rattle.join.specs.Join.{JoinCall, callSite}
+use Rattle.join.proofs.Demands.{callList}
+use Rattle.heat.specs.Cells.{quotient, pairOf, cellIn}
+use Rattle.heat.specs.Answers.{CellTells, cellNumber, CellCall, callEntries}
+use Rattle.heat.specs.Refusals.{CellCause}
+use Rattle.heat.specs.declared.Cell.the-variants as cell
+use Rattle.heat.specs.declared.CellAnswer.the-variants as answer
+
+-- ---- demand 1: 13 and 17
+
+pub record CellRefuses (c : CellCall) : Type 0 where
+  -- it refuses with n at p exactly if that has its cause (heat/specs/Refusals.antt)
+  pub exactly : (n p : ℕ) → 0 < n → CellTells (c .answer) n (p ∷ []) ↔ CellCause c n p
+  -- where nothing is a cause, the answer is the cell (heat/specs/Cells.antt)
+  pub accepted : ((n p : ℕ) → CellCause c n p → ⊥) → c .answer ≡ answer.Cell (cellIn (c .first) (c .second) (callEntries c))
+
+-- ---- the heat map
+
+-- the two contexts of a cell, as a pair
+abbrev pub cellPair : CellCall → Pair
+cellPair c = pairOf (c .first) (c .second)
+
+-- a cell of the list that the join j left
+pub record OnMap (j : JoinCall) (c : CellCall) : Type 0 where
+  -- it is not refused
+  pub accepted : cellNumber (c .answer) ≡ 0
+  -- it has a value exactly if the pair is listed
+  pub listed : CellTells (c .answer) 0 (1 ∷ []) ↔ cellPair c ∈ callList j
+  -- that value is the quotient of what the two contexts share and of their union on the site
+  pub value : cellPair c ∈ callList j
+      → c .answer ≡ answer.Cell (cell.Value (quotient (sharedOf (callSite j) (cellPair c)) (unionOf (callSite j) (cellPair c))))
+  -- else it is blank
+  pub blank : (cellPair c ∈ callList j → ⊥) → c .answer ≡ answer.Cell cell.Blank
+
+-- A join that tells f pairs found, and a cell of two of its contexts: given to `cell_of` are the number of contexts, the list as the
+-- join left it, and f.
+abbrev pub MapsList : JoinCall → CellCall → Type 0
+MapsList j c =
+    (f e m : ℕ) → Tells (j .answer) 0 (f ∷ e ∷ m ∷ [])
+    → c .contexts ≡ length (callSite j) → c .list ≡ j .list′ → c .entries ≡ f
+    → c .first < c .contexts → c .second < c .contexts → OnMap j c
+
+-- Two cells with the same two contexts the other way round, of any list: both answers are the same, unless a number is refused.
+abbrev pub BothWays : CellCall → CellCall → Type 0
+BothWays c d =
+    c .contexts ≡ d .contexts → c .list ≡ d .list → c .entries ≡ d .entries → c .first ≡ d .second → c .second ≡ d .first
+    → c .first < c .contexts → c .second < c .contexts → c .answer ≡ d .answer
