@@ -1,4 +1,4 @@
--- The library's answer as the host's value.
+-- The library's answers as the host's values.
 use mathlib.Core.List.{List}
 use mathlib.Core.Path.{_≡_, refl, ap, _∙_}
 use Prim.Native.Nat.{ℕ, _+_}
@@ -7,7 +7,10 @@ use Rattle.listing.specs.Answers.{listingBy}
 use Rattle.listing.specs.Calls.{Lists}
 use Rattle.listing.specs.declared.Listing.{Listing}
 use Rattle.listing.specs.declared.Listing.the-variants.{Text, Refused}
-use Rattle.host.specs.Call.{hostValue, Hosts}
+use lib.Ieee.{Float}
+use Rattle.heat.specs.Answers.{cellOf, cellValue}
+use Rattle.heat.specs.declared.CellAnswer.{CellAnswer}
+use Rattle.host.specs.Call.{hostValue, Hosts, hostCell, HostsCell}
 
 -- the value of the library's answer
 unfoldable pub hostValueBy : Listing → ℕ
@@ -33,3 +36,8 @@ module _ {sheet text text₂ : List ℕ} {r : Listing} (w : Lists sheet text r t
   pub hosted-refusal : {n p : ℕ} → r ≡ Refused n p → Hosts sheet text (1000000 + n) text₂
   unfolding hostValueBy
   hosted-refusal e = hosted (rw e)
+
+-- the kind and the value of a cell
+pub hosted-cell : (contexts : ℕ) (list : List ℕ) (entries first second : ℕ) {r : CellAnswer} {n : ℕ} {v : Float}
+    → r ≡ cellOf contexts list entries first second → v ≡ cellValue r → n ≡ hostCell r → HostsCell contexts list entries first second n v
+hosted-cell contexts list entries first second e f g = record { kind-is = g ∙ ap hostCell e; value-is = f ∙ ap cellValue e }

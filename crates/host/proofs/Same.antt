@@ -1,4 +1,5 @@
--- The host call says what the library's call says of the same sheet in a buffer as long: the same text, the same length, the same refusal number.
+-- The host calls say what the library's calls say: of the same sheet in a buffer as long the same text, the same length, the same
+-- refusal number; of the same cell the same kind, the same value, the same refusal number.
 use mathlib.Core.List.{List, [], _∷_}
 use mathlib.Core.Path.{_≡_, refl, sym, ap, subst, _∙_}
 use Prim.Native.Nat.{ℕ, _+_, _<_}
@@ -17,11 +18,19 @@ use Rattle.listing.proofs.Telling.{lists-numbered}
 use Rattle.listing.proofs.Only.{list-sheet-says}
 use Rattle.listing.proofs.list_sheet.Kinds as list-sheet-kinds
 use Rattle.listing.proofs.list_sheet.Reads as list-sheet
-use Rattle.host.specs.Call.{hostValue, Hosts}
+use lib.Ieee.{Float}
+use Rattle.site.specs.declared.Context.{Context}
+use Rattle.heat.specs.Answers.{cellOf, cellValue}
+use Rattle.heat.specs.declared.CellAnswer.{CellAnswer}
+use Rattle.heat.proofs.cell_of.Kinds as cell-of-kinds
+use Rattle.heat.proofs.cell_of.Reads as cell-of
+use Rattle.host.specs.Call.{hostValue, Hosts, hostCell}
 use Rattle.host.proofs.Hosted.{hostValueBy, value-same}
 use Rattle.host.proofs.Only.{sazamkhri-listing-says}
 use Rattle.host.proofs.sazamkhri_listing.Kinds as sazamkhri-listing-kinds
 use Rattle.host.proofs.sazamkhri_listing.Reads as sazamkhri-listing
+use Rattle.host.proofs.sazamkhri_cell.Kinds as sazamkhri-cell-kinds
+use Rattle.host.proofs.sazamkhri_cell.Reads as sazamkhri-cell
 
 -- where the library answers r and leaves t, the host gets v and its buffer u
 pub record SameSaid (r : Listing) (t : List ℕ) (v : ℕ) (u : List ℕ) : Type 0 where
@@ -53,3 +62,13 @@ pub host-lists : (κs κs′ : Lfts 2) (a : Dens κs list-sheet-kinds.ps) (b : D
     → list-sheet.Post κs a r x → sazamkhri-listing.Post κs′ b v y → SameSaid r (x .1 .0 .now) v (y .1 .0 .now)
 host-lists κs κs′ a b r v x y same l p q =
     hosts-lists l (subst (λ (s : List ℕ). Lists s (a .1 .0 .now) r (x .1 .0 .now)) same (list-sheet-says κs a r x p)) (sazamkhri-listing-says κs′ b v y q)
+
+-- `cell_of` with the arguments a answers r, and the host call with the same arguments b gets v, and w for the value
+pub host-cells : (κs : Lfts 1) (κs′ : Lfts 2) (a : Dens κs cell-of-kinds.ps) (b : Dens κs′ sazamkhri-cell-kinds.ps)
+    (r : resT cell-of-kinds.r κs .Denot) (v : resT sazamkhri-cell-kinds.r κs′ .Denot)
+    (x : AtExit (endedOf 1 cell-of-kinds.ps cell-of-kinds.r) κs) (y : AtExit (endedOf 2 sazamkhri-cell-kinds.ps sazamkhri-cell-kinds.r) κs′)
+    → a .0 ≡ b .0 → a .1 .0 .now ≡ b .1 .0 .now → a .1 .1 .0 ≡ b .1 .1 .0 → a .1 .1 .1 .0 .0 ≡ b .1 .1 .1 .0 → a .1 .1 .1 .1 .0 .0 ≡ b .1 .1 .1 .1 .0
+    → cell-of.Post κs a r x → sazamkhri-cell.Post κs′ b v y → (v ≡ hostCell r) × (y .1 .1 .1 .1 .1 .0 .now ≡ cellValue r)
+host-cells κs κs′ a b r v x y n l e f s p q =
+    let same = sym (p ∙ λ i. cellOf (n i) (l i) (e i) (f i) (s i)) in
+    (q .kind-is ∙ ap hostCell same, q .value-is ∙ ap cellValue same)
