@@ -1,5 +1,7 @@
 -- the division of two counts is their quotient, rounded once
 pub mod Rounded
+-- what a value tells
+pub mod Values
 -- the loop that looks for an entry
 pub mod Sought
 -- the rule of an entry, and its meaning
