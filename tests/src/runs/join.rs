@@ -85,7 +85,7 @@ impl Trial {
 }
 
 /// A k of 1 to 64, often about the number of pairs that share a code.
-fn some_k(random: &mut Random, sharing: usize) -> u16 {
+pub fn some_k(random: &mut Random, sharing: usize) -> u16 {
     let k = match random.below(10) {
         0 | 1 => 1,
         2 => 2,

@@ -1,5 +1,7 @@
 //! One file a subcommand, and what they have in common.
 
+#[cfg(all(feature = "probe", feature = "host"))]
+pub mod cell;
 #[cfg(feature = "probe")]
 pub mod doubled;
 #[cfg(feature = "host")]
@@ -59,6 +61,8 @@ pub const KINDS: &[&Kind] = &[
     &sheets::WRITE,
     #[cfg(feature = "probe")]
     &doubled::KIND,
+    #[cfg(all(feature = "probe", feature = "host"))]
+    &cell::KIND,
     #[cfg(feature = "host")]
     &host::KIND,
     #[cfg(feature = "host")]
@@ -81,9 +85,7 @@ impl Kind {
             .map_err(|difference| self.differs(choice, difference))?;
         let seconds = start.elapsed().as_secs_f64();
         println!("{}, random: {} in {seconds:.1} s; {}", self.name, cases(tally.cases()), tally.words());
-        if !self.ways.is_empty() {
-            println!("{}, ways: {}", self.name, tally.ways(self.ways));
-        }
+        print!("{}", tally.ways(self.ways));
         // Few cases owe nothing.
         if n >= self.gate {
             let again = |what| format!("{what}\n{}", self.again(choice, &format!("N={n}"), &format!("n={n}")));
