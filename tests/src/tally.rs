@@ -80,10 +80,9 @@ impl Tally {
         words
     }
 
-    /// How often each of these ways was gone, in one line.
+    /// How often each of these ways was gone, a line for each.
     pub fn ways(&self, owed: &[&str]) -> String {
-        let each: Vec<String> = owed.iter().map(|way| format!("{way}: {}", self.ways.get(way).unwrap_or(&0))).collect();
-        each.join("; ")
+        owed.iter().map(|way| format!("{:>9} {way}\n", self.ways.get(way).unwrap_or(&0))).collect()
     }
 
     /// Fails if one of the ways that are owed was never gone.
@@ -155,7 +154,8 @@ mod tests {
         let mut more = Tally::default();
         more.add(Outcome { end: Some(0), ways: vec!["blank"] });
         some.merge(&more);
-        assert_eq!(some.ways(&["itself", "blank", "value"]), "itself: 1; blank: 2; value: 0");
+        assert_eq!(some.ways(&["itself", "blank"]), "        1 itself\n        2 blank\n");
+        assert_eq!(some.ways(&["value"]), "        0 value\n");
         assert_eq!(some.gone("cell", &["blank", "itself"]), Ok(()));
         assert_eq!(some.gone("cell", &["value", "blank"]).unwrap_err(), "cell: never reached, though owed: value");
         assert_eq!(some.cases(), 2);
