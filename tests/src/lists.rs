@@ -206,7 +206,7 @@ fn small_entry(number: u16) -> [u16; 4] {
 }
 
 /// All cells of two numbers below the bound.
-fn cells_below(bound: u16) -> impl Iterator<Item = (u16, u16)> {
+pub fn cells_below(bound: u16) -> impl Iterator<Item = (u16, u16)> {
     (0..bound).flat_map(move |first| (0..bound).map(move |second| (first, second)))
 }
 

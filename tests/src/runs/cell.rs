@@ -9,7 +9,7 @@ use crate::cases;
 use crate::damage::{all_sites, Tables};
 use crate::ffi::{self, Lent};
 use crate::heat::{self, similarity, Asked, Bits, Cell, Told};
-use crate::lists::{all_questions, some_question, Question};
+use crate::lists::{all_questions, cells_below, some_question, Question};
 use crate::paper::{self, Findings, Survey};
 use crate::random::{large_kind, large_site, seed_of, slices, small_site, tables, Contexts, Random, KINDS};
 use crate::tally::{Outcome, Tally};
@@ -182,7 +182,7 @@ fn whole_map(random: &mut Random, contexts: &[Vec<u16>], survey: &Survey, k: u16
     let valued = valued(&findings);
     let mut list = List::new(random, words);
     let number = contexts.len() as u16;
-    for (first, second) in (0..number).flat_map(|first| (0..number).map(move |second| (first, second))) {
+    for (first, second) in cells_below(number) {
         let told = Ok(valued.get(&(first, second)).map_or(Cell::Blank, |&bits| Cell::Value(bits)));
         let asked = Asked { contexts: number, entries: found, first, second };
         if heat::cell(asked, words) != told {
