@@ -1,6 +1,6 @@
 #!/usr/bin/env python3
-"""Checks that what is told in more than one place is told alike: version, refusals, limits, ratios, times, and the names
-of files and commands.
+"""Checks that what is told in more than one place is told alike: version, refusals, limits, ratios, times, kinds of
+trials, and the names of files and commands.
 
     scripts/check-figures.py [ROOT]
 
@@ -120,6 +120,26 @@ def times(root):
     })
 
 
+def kinds(root):
+    """The kinds of trials: those that there are, and wherever all of them are told."""
+    choice, page = Text(root, "tests/src/choice.rs"), Text(root, "tests/README.md")
+    runs = [file.read_text(encoding="utf-8") for file in root.glob("tests/src/runs/*.rs")]
+    there = [name for text in runs for name in re.findall(r'^    name: "(\w+)",$', text, re.M)]
+    quoted = lambda line: sorted(re.findall(r'["`](\w+)["`]', line))
+    rows = page.find(r"^\| `trials (\w+)(?: PATH)?` \|")
+    wrong = differ("kinds of trials", {
+        "tests/src/runs": sorted(there),
+        "all in tests/src/choice.rs": quoted(choice.find(r'^        "all" => (.*)$')[0]),
+        "the use in tests/src/choice.rs": sorted(choice.find(r"^KIND     (.*)$")[0].split(" | ")),
+        "all in tests/README.md": quoted(page.find(r"^\| `trials all PATH` \| (.*), one after the other \|")[0]),
+        "the rows of tests/README.md": sorted(set(rows) - {"sheets", "all"}),
+    })
+    return wrong + differ("cases of a run with a million of each kind", {
+        "the kinds": 1_000_000 * len(there),
+        "tests/README.md": number(page.find(r"^    trials: (\d+) cases, no difference")[0]),
+    })
+
+
 def names(root):
     """Every file and every `make` target that a page names is there."""
     targets = set(Text(root, "Makefile").find(r"^([a-z]+):"))
@@ -150,7 +170,7 @@ def scripts(root):
 def main(arguments):
     root = Path(arguments[0]) if arguments else Path(__file__).resolve().parent.parent
     wrong = []
-    checks = (version, refusals, limits, ratios, times, names, scripts)
+    checks = (version, refusals, limits, ratios, times, kinds, names, scripts)
     for check in checks:
         try:
             wrong += check(root)

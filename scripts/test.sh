@@ -22,6 +22,7 @@ step "the independent program agrees with the paper's examples" oracle
 step "join against all pairs" scripts/trials.sh join
 step "the user's law: a second code for every type" scripts/trials.sh doubled
 step "reader and writer against the independent ones" scripts/trials.sh sheets
+step "cells of the heat map against the independent ones" scripts/trials.sh cell
 step "listing and host call against the independent ones" scripts/trials.sh host
 step "program against the independent listing" scripts/trials.sh program "$PWD/target/bin/sazamkhri"
 step "stored sheets give stored listings" scripts/check-examples.sh target/bin/sazamkhri examples examples/refused

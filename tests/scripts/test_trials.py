@@ -1,10 +1,11 @@
 #!/usr/bin/env python3
-"""Tries the trials themselves: whether they notice a program that is wrong, and say how to see it again.
+"""Tries the trials themselves: whether they notice a program or a call that is wrong, and say how to see it again.
 
     python3 tests/scripts/test_trials.py
 
-Each wrong program is a small script that runs the real one and then does one thing that it should not. The trials must
-fail on it, in words that say which. It needs target/bin/sazamkhri and the static libraries, as `make test` builds them.
+Each wrong program is a small script that runs the real one and then does one thing that it should not. The calls for a
+cell of the heat map are those of wrong_cell.c, with one mistake at a time. The trials must fail on each, in words that
+say which. It needs target/bin/sazamkhri and the static libraries, as `make test` builds them, cc and binutils.
 """
 import os
 import re
@@ -17,28 +18,34 @@ from pathlib import Path
 
 ROOT = Path(__file__).resolve().parents[2]
 PROGRAM = ROOT / "target" / "bin" / "sazamkhri"
-TRIALS = ROOT / "target" / "trials" / "release" / "trials"
+TARGET = ROOT / "target" / "trials"
 LIBRARIES = ROOT / "target" / "staticlib"
+# The trials over libraries with a wrong cell.
+WRONG_CELL = Path(__file__).resolve().parent / "wrong_cell.c"
+WRONG_TARGET = ROOT / "target" / "trials-wrong"
 
 # The last line of a run without a difference.
 LAST = re.compile(r"trials: (\d+) cases?, no difference; accepted (\d+), refused (none|\d+: \d+(?:, \d+: \d+)*)"
                   r"(?:, nothing done (\d+))?")
 
 
-def build():
-    """Builds the trials; gives what is wrong, or None."""
+def build(target=TARGET, libraries=LIBRARIES, **environment):
+    """Builds the trials over these libraries; gives what is wrong, or None."""
     for needed in (PROGRAM, LIBRARIES / "libprobe.a", LIBRARIES / "libhost.a"):
         if not needed.is_file():
             return f"{needed} is not there. Build it first: scripts/build.py program host probe"
-    places = {"CARGO_TARGET_DIR": str(ROOT / "target" / "trials"), "SAZAMKHRI_LIB": str(LIBRARIES)}
+    places = {"CARGO_TARGET_DIR": str(target), "SAZAMKHRI_LIB": str(libraries)}
     command = ["cargo", "build", "--release", "--quiet", "--offline"]
-    done = subprocess.run(command, cwd=ROOT / "tests", env={**os.environ, **places}, capture_output=True, text=True)
+    own = {**os.environ, **places, **environment}
+    done = subprocess.run(command, cwd=ROOT / "tests", env=own, capture_output=True, text=True)
     return None if done.returncode == 0 else f"the trials do not build:\n{done.stderr}"
 
 
-def trials(*words):
+def trials(*words, target=TARGET, **environment):
     """Runs the trials as the Makefile does; gives exit status, standard output and standard error."""
-    done = subprocess.run([str(TRIALS), *map(str, words)], cwd=ROOT, capture_output=True, text=True, timeout=300)
+    command = [str(target / "release" / "trials"), *map(str, words)]
+    own = {**os.environ, **environment}
+    done = subprocess.run(command, cwd=ROOT, env=own, capture_output=True, text=True, timeout=300)
     return done.returncode, done.stdout, done.stderr
 
 
@@ -140,6 +147,111 @@ class WrongPrograms(Trials):
         self.assertIn("case 'Three'", output)
 
 
+class WrongCells(unittest.TestCase):
+    """A call for a cell that is wrong in one way is found, and it is said what is wrong: each of the two calls."""
+
+    # Each mistake of wrong_cell.c that both calls can make, and where the call for tests is seen to differ. Where its
+    # answer differs, the host call gives another number.
+    IN_BOTH = {
+        "a number that equals the contexts passes": "answer[0]",
+        "the length is rounded up to whole entries": "answer[0]",
+        "the words of the entries are counted in 64 bits": "answer[0]",
+        "the count has 32 bits": "answer[0]",
+        "the count has 16 bits": "answer[0]",
+        "an entry of one context passes": "answer[0]",
+        "falling contexts pass": "answer[0]",
+        "a higher context that equals the contexts passes": "answer[0]",
+        "nothing shared passes": "answer[0]",
+        "shared that equals the union is refused": "answer[0]",
+        "shared one above the union passes": "answer[0]",
+        "one order alone is found": "answer[1]",
+        "entries behind the counted ones are judged": "answer[0]",
+        "the last entry is not judged": "answer[0]",
+        "entries behind the one found are not judged": "answer[0]",
+        "entries are not judged for a context against itself": "answer[0]",
+        "the count is judged before the numbers": "answer[0]",
+        "a context is like itself": "answer[1]",
+        "a blank is told as a value": "answer[1]",
+        "the later of two entries counts": "value[0]",
+        "the quotient is upside down": "value[0]",
+        "the quotient is rounded twice": "value[0]",
+        "the quotient is worked out in single precision": "value[0]",
+        "the quotient is rounded to four decimals": "value[0]",
+        "the value is left as it was when blank": "value[0]",
+        "the value is left as it was when refused": "value[0]",
+        "the value is -0 when blank": "value[0]",
+        "the list is changed": "list[3]",
+        "a word in front of the list is changed": "list: a word outside of the lent table",
+        "a word behind the value is changed": "value: a word outside of the lent table",
+    }
+    IN_PROBE = {
+        "the second number is told at place 0": "answer[1]",
+        "the second number is judged first": "answer[1]",
+        "the count is told at the place that it has": "answer[1]",
+        "places have 16 bits": "answer[1]",
+        "the third word of the answer is left": "answer[2]",
+        "the fourth word of the answer is left": "answer[3]",
+        "a word behind the answer is changed": "answer: a word outside of the lent table",
+        "something is done with a short answer": "value[0]",
+        "something is done with no value": "answer[0]",
+        "it returns the number": "it always returns 0, and now 17",
+    }
+    IN_HOST = {"the number is told alone": "expected 1000017, got 17"}
+
+    @classmethod
+    def setUpClass(cls):
+        # What ends at the first difference need not be fast: most of the time would go into building it.
+        wrong = cls.libraries() or build(WRONG_TARGET, WRONG_TARGET / "lib", CARGO_PROFILE_RELEASE_OPT_LEVEL="0")
+        if wrong:
+            raise AssertionError(wrong)
+
+    @staticmethod
+    def libraries():
+        """The proved libraries, with the calls of wrong_cell.c for their own; gives what is wrong, or None."""
+        folder = WRONG_TARGET / "lib"
+        folder.mkdir(parents=True, exist_ok=True)
+        made = folder / "wrong_cell.o"
+        commands = [["cc", "-std=c99", "-O1", "-Wall", "-Wextra", "-Werror", "-c", WRONG_CELL, "-o", made]]
+        renamed = [f"--redefine-sym={call}=proved_{call}" for call in ("probe_cell", "sazamkhri_cell")]
+        for library in ("libprobe.a", "libhost.a"):
+            commands.append(["objcopy", *renamed, LIBRARIES / library, folder / library])
+        commands.append(["ar", "r", folder / "libprobe.a", made])
+        for command in commands:
+            done = subprocess.run(command, capture_output=True, text=True)
+            if done.returncode:
+                return f"{command[0]} fails:\n{done.stderr}"
+        return None
+
+    def notices(self, call, mistake, words):
+        """The trials must fail if this call makes this mistake, with these words."""
+        status, output, errors = trials("cell", "n=0", target=WRONG_TARGET, MISTAKE=mistake, WRONG_CALL=call)
+        self.assertEqual(status, 1, output + errors)
+        self.assertTrue(output.startswith("trials: FAILED\ncase '"), output)
+        self.assertIn(words, output)
+        self.assertTrue(output.endswith("To see it again: make trials KIND=cell SEED=1 N=0\n"), output)
+
+    def test_calls_without_a_mistake_pass(self):
+        status, output, errors = trials("cell", "n=2000", target=WRONG_TARGET)
+        self.assertEqual((status, errors), (0, ""), output)
+        self.assertEqual(counts(output), (2000, 2000))
+
+    def test_mistakes_of_the_call_for_tests(self):
+        for mistake, where in {**self.IN_BOTH, **self.IN_PROBE}.items():
+            with self.subTest(mistake):
+                self.notices("probe", mistake, f"\ncell: {where}")
+
+    def test_mistakes_of_the_host_call(self):
+        for mistake, where in {**self.IN_BOTH, **self.IN_HOST}.items():
+            with self.subTest(mistake):
+                where = "expected " if where.startswith("answer") else where
+                self.notices("host", mistake, f"\nhost cell: {where}")
+
+    def test_every_mistake_is_tried(self):
+        text = WRONG_CELL.read_text(encoding="utf-8")
+        there = re.findall(r'"([^"]+)"', text[text.index("static int makes"):])
+        self.assertEqual(sorted(set(there)), sorted({**self.IN_BOTH, **self.IN_PROBE, **self.IN_HOST}))
+
+
 class Again(Trials):
     """The printed command repeats the difference, and the difference does not depend on the number of threads."""
 
@@ -182,8 +294,8 @@ class Counts(Trials):
     def test_all_kinds_are_counted_in_the_last_line(self):
         status, output, errors = trials("all", f"path={PROGRAM}", "n=30", "seed=3")
         self.assertEqual((status, errors), (0, ""), output)
-        self.assertEqual(counts(output), (180, 180))
-        for kind in ("join", "read", "write", "doubled", "host", "program"):
+        self.assertEqual(counts(output), (210, 210))
+        for kind in ("join", "read", "write", "doubled", "cell", "host", "program"):
             self.assertRegex(output, rf"(?m)^{kind}, random: 30 cases ")
             self.assertRegex(output, rf"(?m)^{kind}: [1-9]\d* \w+ by name ")
 
@@ -252,7 +364,7 @@ class Make(unittest.TestCase):
 
     def test_all_kinds(self):
         done = self.make("N=3")
-        self.assertEqual((done.returncode, counts(done.stdout)), (0, (18, 18)), done.stderr)
+        self.assertEqual((done.returncode, counts(done.stdout)), (0, (21, 21)), done.stderr)
 
     def test_one_trial_again(self):
         done = self.make("KIND=join", "SEED=7", "TRIAL=123")

@@ -1,7 +1,8 @@
 //! Cases with a name: the paper's examples and limits, and the worked examples of the decisions. Each states its
 //! outcome in full, written down by hand, so that the brute-force paper is itself under trial here.
 
-use crate::paper::{self, After, Answer, Rooms};
+use crate::heat::{self, Asked, Bits, Cell, Told};
+use crate::paper::{self, refuse, After, Answer, Rooms};
 use crate::random::tables;
 use crate::sheet;
 
@@ -438,6 +439,228 @@ pub fn listings() -> Vec<ListingCase> {
     cases
 }
 
+/// A cell of the heat map by name: what is asked, the words of the list buffer, and what is to be told.
+pub struct CellCase {
+    pub name: String,
+    pub asked: Asked,
+    pub list: Vec<u16>,
+    pub told: Told,
+}
+
+impl CellCase {
+    /// Whether the map by brute force tells what the case states.
+    pub fn stated(&self) -> Result<(), String> {
+        let given = heat::cell(self.asked, &self.list);
+        if given == self.told {
+            Ok(())
+        } else {
+            Err(format!("'{}': {:?} is stated, {given:?} is found", self.name, self.told))
+        }
+    }
+}
+
+const BLANK: Told = Ok(Cell::Blank);
+
+/// A similarity, by the bits of its f64.
+fn bits(bits: u64) -> Told {
+    Ok(Cell::Value(Bits(bits)))
+}
+
+fn no(number: u64, place: usize) -> Told {
+    Err(refuse(number, place))
+}
+
+/// The cell of these two contexts, of so many contexts, from so many entries of the list.
+fn cell(name: &str, contexts: u16, list: &[u16], entries: usize, cell: (u16, u16), told: Told) -> CellCase {
+    let asked = Asked { contexts, entries, first: cell.0, second: cell.1 };
+    CellCase { name: name.to_string(), asked, list: list.to_vec(), told }
+}
+
+/// The list of the sheet Three with k=1: one entry, of three contexts.
+const ONE_PAIR: &[u16] = &[0, 1, 4, 5];
+/// Its list with k=3.
+const THREE_PAIRS: &[u16] = &[0, 1, 4, 5, 1, 2, 4, 5, 0, 2, 3, 5];
+
+fn cells_of_three() -> Vec<CellCase> {
+    let four_of_five = bits(0x3fe9_9999_9999_999a);
+    let three_of_five = bits(0x3fe3_3333_3333_3333);
+    let zeros_behind = [ONE_PAIR, &[0; 8]].concat();
+    vec![
+        cell("Three, 0 and 1", 3, ONE_PAIR, 1, (0, 1), four_of_five),
+        cell("Three, 1 and 0", 3, ONE_PAIR, 1, (1, 0), four_of_five),
+        cell("Three, 0 and 2 are not listed", 3, ONE_PAIR, 1, (0, 2), BLANK),
+        cell("Three, 2 and 0 are not listed", 3, ONE_PAIR, 1, (2, 0), BLANK),
+        cell("Three, 1 and 2 are not listed", 3, ONE_PAIR, 1, (1, 2), BLANK),
+        cell("Three, 2 and 1 are not listed", 3, ONE_PAIR, 1, (2, 1), BLANK),
+        cell("Three, 0 against itself", 3, ONE_PAIR, 1, (0, 0), BLANK),
+        cell("Three, 1 against itself", 3, ONE_PAIR, 1, (1, 1), BLANK),
+        cell("Three, 2 against itself", 3, ONE_PAIR, 1, (2, 2), BLANK),
+        cell("Three, no entry counted", 3, ONE_PAIR, 0, (0, 1), BLANK),
+        cell("Three, zeros behind the entry", 3, &zeros_behind, 1, (1, 0), four_of_five),
+        cell("Three, a zero entry counted", 3, &zeros_behind, 2, (1, 0), no(17, 1)),
+        cell("Three, k=3, 0 and 2", 3, THREE_PAIRS, 3, (0, 2), three_of_five),
+        cell("Three, k=3, 2 and 1", 3, THREE_PAIRS, 3, (2, 1), four_of_five),
+        cell("Three, k=3, the third pair not counted", 3, THREE_PAIRS, 2, (0, 2), BLANK),
+        cell("Three, k=3, 2 against itself", 3, THREE_PAIRS, 3, (2, 2), BLANK),
+    ]
+}
+
+/// The ten pairs of the practice cemetery, which has eleven contexts.
+fn cells_of_the_cemetery() -> Vec<CellCase> {
+    let pairs = [
+        [6, 9, 4, 6],
+        [2, 3, 9, 14],
+        [0, 1, 9, 15],
+        [3, 4, 6, 10],
+        [2, 4, 6, 13],
+        [1, 10, 5, 11],
+        [2, 8, 7, 16],
+        [0, 7, 6, 14],
+        [0, 10, 5, 13],
+        [1, 7, 4, 14],
+    ];
+    let cell = |name: &str, contexts, told| cell(name, 11, &pairs.concat(), 10, contexts, told);
+    vec![
+        cell("cemetery, 6 and 9, the first pair", (6, 9), bits(0x3fe5_5555_5555_5555)),
+        cell("cemetery, 3 and 2", (3, 2), bits(0x3fe4_9249_2492_4925)),
+        cell("cemetery, 0 and 1: 9 of 15", (0, 1), bits(0x3fe3_3333_3333_3333)),
+        cell("cemetery, 4 and 3: 6 of 10 are as much", (4, 3), bits(0x3fe3_3333_3333_3333)),
+        cell("cemetery, 2 and 8: 7 of 16", (2, 8), bits(0x3fdc_0000_0000_0000)),
+        cell("cemetery, 10 and 0", (10, 0), bits(0x3fd8_9d89_d89d_89d9)),
+        cell("cemetery, 7 and 1, the last pair", (7, 1), bits(0x3fd2_4924_9249_2492)),
+        cell("cemetery, 5 has no listed pair", (5, 10), BLANK),
+        cell("cemetery, 10 against itself", (10, 10), BLANK),
+        cell("cemetery, 11 is no context", (11, 10), no(13, 0)),
+    ]
+}
+
+fn similarities() -> Vec<CellCase> {
+    let cell = |name: &str, shared, union, told| cell(name, 2, &[0, 1, shared, union], 1, (0, 1), told);
+    vec![
+        cell("1 of 1", 1, 1, bits(0x3ff0_0000_0000_0000)),
+        cell("65535 of 65535", 65_535, 65_535, bits(0x3ff0_0000_0000_0000)),
+        cell("1 of 2", 1, 2, bits(0x3fe0_0000_0000_0000)),
+        cell("1 of 3, rounded down", 1, 3, bits(0x3fd5_5555_5555_5555)),
+        cell("2 of 3, rounded down", 2, 3, bits(0x3fe5_5555_5555_5555)),
+        cell("5 of 7, rounded up", 5, 7, bits(0x3fe6_db6d_b6db_6db7)),
+        cell("99 of 100", 99, 100, bits(0x3fef_ae14_7ae1_47ae)),
+        cell("100 of 101, which is more", 100, 101, bits(0x3fef_aee4_1e6a_7498)),
+        cell("1 of 65535", 1, 65_535, bits(0x3ef0_0010_0010_0010)),
+        cell("65533 of 65534", 65_533, 65_534, bits(0x3fef_ffdf_ffbf_ff80)),
+        cell("65534 of 65535, which is more", 65_534, 65_535, bits(0x3fef_ffdf_ffdf_ffe0)),
+    ]
+}
+
+/// Refusal 13, and the greatest numbers that are none.
+fn context_numbers() -> Vec<CellCase> {
+    let four_of_five = bits(0x3fe9_9999_9999_999a);
+    let far = [65_533, 65_534, 4, 5];
+    vec![
+        cell("no contexts", 0, &[], 0, (0, 0), no(13, 0)),
+        cell("no contexts, and a bad list", 0, ONE_PAIR, 2, (0, 0), no(13, 0)),
+        cell("one context", 1, &[], 0, (0, 0), BLANK),
+        cell("one context, and a second number", 1, &[], 0, (0, 1), no(13, 1)),
+        cell("one context, and a first number", 1, &[], 0, (1, 0), no(13, 0)),
+        cell("one context, and an entry", 1, ONE_PAIR, 1, (0, 0), no(17, 0)),
+        cell("the first number equals the contexts", 3, ONE_PAIR, 1, (3, 0), no(13, 0)),
+        cell("the second number equals the contexts", 3, ONE_PAIR, 1, (0, 3), no(13, 1)),
+        cell("both numbers equal the contexts", 3, ONE_PAIR, 1, (3, 3), no(13, 0)),
+        cell("both numbers are far too great", 3, ONE_PAIR, 1, (65_535, 40_000), no(13, 0)),
+        cell("a first number too great before a count too great", 3, ONE_PAIR, 2, (3, 0), no(13, 0)),
+        cell("a second number too great before a count too great", 3, ONE_PAIR, 2, (0, 3), no(13, 1)),
+        cell("a second number too great before a bad entry", 3, &[1, 1, 4, 5], 1, (0, 3), no(13, 1)),
+        cell("65535 contexts, the last two", 65_535, &far, 1, (65_534, 65_533), four_of_five),
+        cell("65535 contexts, a first number of 65535", 65_535, &far, 1, (65_535, 0), no(13, 0)),
+        cell("65535 contexts, a second number of 65535", 65_535, &far, 1, (0, 65_535), no(13, 1)),
+        // More contexts than a sheet may have are none too many for a list.
+        cell("300 contexts", 300, &[0, 299, 4, 5], 1, (299, 0), four_of_five),
+    ]
+}
+
+/// Refusal 17 for the count of entries.
+fn counts_of_entries() -> Vec<CellCase> {
+    let four_of_five = bits(0x3fe9_9999_9999_999a);
+    let odd = [THREE_PAIRS, &[0, 1, 2]].concat();
+    let of_pair = |name: &str, entries| cell(name, 3, ONE_PAIR, entries, (0, 1), no(17, 0));
+    vec![
+        cell("as many entries as the buffer holds", 3, THREE_PAIRS, 3, (0, 1), four_of_five),
+        cell("one entry more than the buffer holds", 3, THREE_PAIRS, 4, (0, 1), no(17, 0)),
+        cell("three words behind three entries", 3, &odd, 3, (0, 1), four_of_five),
+        cell("three words behind three entries are no fourth", 3, &odd, 4, (0, 1), no(17, 0)),
+        cell("a buffer of three words, none counted", 3, &ONE_PAIR[..3], 0, (0, 1), BLANK),
+        cell("a buffer of three words, one counted", 3, &ONE_PAIR[..3], 1, (0, 1), no(17, 0)),
+        cell("no buffer, none counted", 3, &[], 0, (0, 1), BLANK),
+        cell("no buffer, one counted", 3, &[], 1, (0, 1), no(17, 0)),
+        cell("no buffer, a context against itself, one counted", 3, &[], 1, (2, 2), no(17, 0)),
+        of_pair("the greatest count", usize::MAX),
+        of_pair("a count whose words are 0 in 64 bits", 1 << 62),
+        of_pair("a count whose words are 4 in 64 bits", (1 << 62) + 1),
+        of_pair("a count whose words are 4 in 64 bits, by far", (3 << 62) + 1),
+        of_pair("a count that is 1 in 32 bits", (1 << 32) + 1),
+        of_pair("a count that is 1 in 16 bits", (1 << 16) + 1),
+        cell("a count too great before a bad entry", 3, &[0, 1, 4, 5, 2, 1, 4, 5], 3, (0, 1), no(17, 0)),
+    ]
+}
+
+/// Refusal 17 for one entry alone, and entries that are just right.
+fn single_entries() -> Vec<CellCase> {
+    let cell = |name: &str, entry: [u16; 4], told| cell(name, 3, &entry, 1, (1, 2), told);
+    vec![
+        cell("an entry of one context", [1, 1, 4, 5], no(17, 0)),
+        cell("an entry whose contexts fall", [2, 1, 4, 5], no(17, 0)),
+        cell("a higher context one below the contexts", [1, 2, 4, 5], bits(0x3fe9_9999_9999_999a)),
+        cell("a higher context that equals the contexts", [1, 3, 4, 5], no(17, 0)),
+        cell("a higher context far too great", [1, 65_535, 4, 5], no(17, 0)),
+        cell("both contexts too great, and rising", [3, 4, 4, 5], no(17, 0)),
+        cell("a lower context too great", [3, 2, 4, 5], no(17, 0)),
+        cell("nothing shared", [1, 2, 0, 5], no(17, 0)),
+        cell("nothing shared, nothing there", [1, 2, 0, 0], no(17, 0)),
+        cell("shared equals the union", [1, 2, 5, 5], bits(0x3ff0_0000_0000_0000)),
+        cell("shared one above the union", [1, 2, 6, 5], no(17, 0)),
+        cell("shared above a union of 0", [1, 2, 1, 0], no(17, 0)),
+        cell("shared far above the union", [1, 2, 65_535, 1], no(17, 0)),
+        cell("an entry of zeros", [0; 4], no(17, 0)),
+        cell("an entry of the greatest words", [65_535; 4], no(17, 0)),
+    ]
+}
+
+/// Several entries: where a bad one stands, and which of two counts.
+fn several_entries() -> Vec<CellCase> {
+    let four_of_five = bits(0x3fe9_9999_9999_999a);
+    let third = bits(0x3fd5_5555_5555_5555);
+    let good = [0, 1, 4, 5];
+    let list = |entries: &[[u16; 4]]| entries.concat();
+    let many = |last: [u16; 4]| [good.repeat(70_000), last.to_vec()].concat();
+    vec![
+        cell("bad before the one looked for", 3, &list(&[[1, 2, 0, 5], good]), 2, (0, 1), no(17, 0)),
+        cell("bad behind the one looked for", 3, &list(&[good, [1, 2, 0, 5]]), 2, (0, 1), no(17, 1)),
+        cell("bad behind the one looked for, falling", 3, &list(&[good, [2, 0, 4, 5]]), 2, (1, 0), no(17, 1)),
+        cell("bad behind the count", 3, &list(&[good, [1, 2, 0, 5]]), 1, (0, 1), four_of_five),
+        cell("a context against itself, bad behind", 3, &list(&[good, [1, 2, 6, 5]]), 2, (0, 0), no(17, 1)),
+        cell("a context against itself, bad behind the count", 3, &list(&[good, [1, 2, 6, 5]]), 1, (0, 0), BLANK),
+        cell("a context against itself, and an entry of it", 3, &list(&[good, [2, 2, 4, 5]]), 2, (2, 2), no(17, 1)),
+        cell("not listed, bad behind", 3, &list(&[good, good, [1, 3, 4, 5]]), 3, (0, 2), no(17, 2)),
+        cell("two bad ones, the earlier counts", 3, &list(&[good, [1, 1, 4, 5], [0; 4]]), 3, (0, 1), no(17, 1)),
+        cell("two bad ones, by another cause first", 3, &list(&[[1, 2, 6, 5], [2, 1, 4, 5]]), 2, (0, 1), no(17, 0)),
+        cell("one pair twice", 3, &list(&[good, [0, 1, 1, 3]]), 2, (0, 1), four_of_five),
+        cell("one pair twice, asked the other way", 3, &list(&[good, [0, 1, 1, 3]]), 2, (1, 0), four_of_five),
+        cell("one pair twice, the smaller one first", 3, &list(&[[0, 1, 1, 3], good]), 2, (0, 1), third),
+        cell("one pair twice, behind another", 3, &list(&[[1, 2, 1, 1], good, [0, 1, 1, 3]]), 3, (0, 1), four_of_five),
+        cell("one pair twice, the later one bad", 3, &list(&[good, [0, 1, 6, 5]]), 2, (0, 1), no(17, 1)),
+        // Numbers of entries that are small in two bytes.
+        cell("the pair behind 70,000 others", 3, &many([1, 2, 4, 5]), 70_001, (1, 2), four_of_five),
+        cell("a bad entry behind 70,000 others", 3, &many([1, 2, 0, 5]), 70_001, (0, 1), no(17, 70_000)),
+        cell("a bad entry behind 70,000 that are counted", 3, &many([1, 2, 0, 5]), 70_000, (0, 1), four_of_five),
+    ]
+}
+
+/// All cells by name.
+pub fn cells() -> Vec<CellCase> {
+    let lists = [cells_of_three(), cells_of_the_cemetery(), similarities()];
+    let refused = [context_numbers(), counts_of_entries(), single_entries(), several_entries()];
+    lists.into_iter().chain(refused).flatten().collect()
+}
+
 #[cfg(test)]
 mod tests {
     use super::*;
@@ -446,6 +669,7 @@ mod tests {
     #[test]
     fn there_are_cases_by_name() {
         assert!(joins().len() >= 51 && readings().len() >= 76 && listings().len() >= 25);
+        assert!(cells().len() >= 103);
     }
 
     #[test]
@@ -465,6 +689,12 @@ mod tests {
     #[test]
     fn the_listing_gives_every_named_listing() {
         for case in listings() {
+            case.stated().unwrap();
+        }
+    }
+    #[test]
+    fn the_map_by_brute_force_tells_every_named_cell() {
+        for case in cells() {
             case.stated().unwrap();
         }
     }

@@ -7,7 +7,7 @@ use crate::runs::{Choice, Kind, KINDS};
 pub const USAGE: &str = "\
 use: trials KIND [PATH] [n=N] [seed=S] [trial=T] [jobs=J] [path=PATH]
 
-KIND     join | read | write | doubled | host | program
+KIND     join | read | write | doubled | cell | host | program
          sheets: read and write; all: every kind, one after the other
 PATH     the program to try, for program and all; path=PATH says the same, and any kind takes it
 n=N      N random cases of each kind, behind the cases by name (without it: as many as the gate has)
@@ -74,9 +74,9 @@ fn set(choice: &mut Choice, key: &str, value: &str) -> Result<(), String> {
 /// The kinds that go by this name.
 fn named(name: &str) -> Result<Vec<&'static Kind>, String> {
     let wanted: &[&str] = match name {
-        "all" => &["join", "read", "write", "doubled", "host", "program"],
+        "all" => &["join", "read", "write", "doubled", "cell", "host", "program"],
         "sheets" => &["read", "write"],
-        "join" | "read" | "write" | "doubled" | "host" | "program" => &[name],
+        "join" | "read" | "write" | "doubled" | "cell" | "host" | "program" => &[name],
         _ => return Err(format!("{name}: there is no such kind")),
     };
     let found: Vec<&'static Kind> = KINDS.iter().copied().filter(|kind| wanted.contains(&kind.name)).collect();

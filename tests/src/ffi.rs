@@ -1,8 +1,11 @@
-//! The calls under trial. A slice passes as its pointer and then its length; what a probe function returns is
+//! The calls under trial. A slice passes as its pointer and then its length; what a probe function returns is mostly
 //! ignored, since its answer stands in `answer`. Every table lent here stands between guard words. Tables that must not
 //! change are lent as if they could, so that the check behind the call does look at them again.
 
 use std::fmt::Debug;
+
+#[cfg(any(feature = "probe", feature = "host"))]
+use crate::heat::{Asked, Bits};
 
 #[cfg(feature = "probe")]
 extern "C" {
@@ -42,11 +45,32 @@ extern "C" {
         answer: *mut u64,
         answer_len: usize,
     ) -> u64;
+    fn probe_cell(
+        contexts: u16,
+        list: *const u16,
+        list_len: usize,
+        entries: usize,
+        first: u16,
+        second: u16,
+        value: *mut f64,
+        value_len: usize,
+        answer: *mut u64,
+        answer_len: usize,
+    ) -> u64;
 }
 
 #[cfg(feature = "host")]
 extern "C" {
     fn sazamkhri_listing(sheet: *const u8, sheet_len: usize, text: *mut u8, text_len: usize) -> u64;
+    fn sazamkhri_cell(
+        contexts: u16,
+        list: *const u16,
+        list_len: usize,
+        entries: usize,
+        first: u16,
+        second: u16,
+        value: *mut f64,
+    ) -> u64;
 }
 
 /// How many guard words stand before and behind each lent table.
@@ -173,4 +197,38 @@ pub fn listing(sheet: &mut Lent<u8>, text: &mut Lent<u8>) -> u64 {
     let text = text.words_mut();
     // Sound: as above.
     unsafe { sazamkhri_listing(sheet.as_mut_ptr(), sheet.len(), text.as_mut_ptr(), text.len()) }
+}
+
+/// One cell by the call for tests. Gives what it returns.
+#[cfg(feature = "probe")]
+pub fn cell(asked: Asked, list: &mut Lent<u16>, value: &mut Lent<Bits>, answer: &mut Lent<u64>) -> u64 {
+    let Asked { contexts, entries, first, second } = asked;
+    let (list, value, answer) = (list.words_mut(), value.words_mut(), answer.words_mut());
+    // Sound: as above; the bits of an f64 are lent as one.
+    unsafe {
+        probe_cell(
+            contexts,
+            list.as_mut_ptr(),
+            list.len(),
+            entries,
+            first,
+            second,
+            value.as_mut_ptr().cast(),
+            value.len(),
+            answer.as_mut_ptr(),
+            answer.len(),
+        )
+    }
+}
+
+/// One cell by the host call, which is lent a value of one word. Gives what it returns.
+#[cfg(feature = "host")]
+pub fn host_cell(asked: Asked, list: &mut Lent<u16>, value: &mut Lent<Bits>) -> u64 {
+    let Asked { contexts, entries, first, second } = asked;
+    let (list, value) = (list.words_mut(), value.words_mut());
+    assert_eq!(value.len(), 1, "the call takes no length of the value");
+    // Sound: as above.
+    unsafe {
+        sazamkhri_cell(contexts, list.as_mut_ptr(), list.len(), entries, first, second, value.as_mut_ptr().cast())
+    }
 }

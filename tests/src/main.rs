@@ -1,6 +1,6 @@
-//! Trials of the join, the reader, the writer, the host call and the program, against the paper by brute force.
-//! Each subcommand prints how often each outcome was reached, and stops at the first difference with all that is
-//! needed to see it again.
+//! Trials of the join, the reader, the writer, the heat map, the host calls and the program, against the paper by brute
+//! force. Each subcommand prints how often each outcome was reached, and stops at the first difference with all that
+//! is needed to see it again.
 
 // Without its library a subcommand is left out, and what only it uses with it.
 #![cfg_attr(not(all(feature = "probe", feature = "host")), allow(dead_code))]
@@ -11,6 +11,8 @@ mod crash;
 mod damage;
 mod doubling;
 mod ffi;
+mod heat;
+mod lists;
 mod paper;
 mod progress;
 mod random;
@@ -18,6 +20,7 @@ mod runs;
 mod sheet;
 mod spread;
 mod tally;
+mod ways;
 
 use std::process::ExitCode;
 

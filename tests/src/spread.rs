@@ -102,7 +102,7 @@ mod tests {
     #[test]
     fn every_trial_is_run_once_with_any_number_of_threads() {
         for (total, threads) in [(0, 1), (1, 4), (31, 2), (32, 2), (33, 3), (1000, 1), (1000, 7)] {
-            let tally = spread("test", total, threads, |number| Ok(Some(number))).unwrap();
+            let tally = spread("test", total, threads, |number| Ok(Some(number).into())).unwrap();
             let mut each = Tally::default();
             (0..total).for_each(|number| each.add(Some(number)));
             assert_eq!(tally, each, "{total} trials in {threads} threads");
@@ -118,7 +118,7 @@ mod tests {
                 Err("slow".to_string())
             }
             40.. => Err("quick".to_string()),
-            _ => Ok(Some(0)),
+            _ => Ok(Some(0).into()),
         };
         let first = Difference { number: 5, what: "slow".to_string() };
         assert_eq!(spread("test", 500, 4, trial), Err(first));
@@ -126,7 +126,7 @@ mod tests {
 
     #[test]
     fn a_trial_that_panics_differs() {
-        let trial = |number: u64| if number == 70 { panic!("no {number}") } else { Ok(Some(0)) };
+        let trial = |number: u64| if number == 70 { panic!("no {number}") } else { Ok(Some(0).into()) };
         let told = Difference { number: 70, what: "the trial panicked: no 70".to_string() };
         assert_eq!(spread("test", 100, 2, trial), Err(told));
     }

@@ -2,13 +2,26 @@
 
 use std::collections::BTreeMap;
 
-/// What became of one case: 0 for an acceptance, else the number of the refusal; none if the answer had no room, so
-/// that nothing was done.
-pub type Outcome = Option<u64>;
+/// How one case ended: 0 for an acceptance, else the number of the refusal; none if the answer had no room, so that
+/// nothing was done.
+pub type End = Option<u64>;
 
-/// An outcome in words.
-pub fn told(outcome: Outcome) -> String {
-    match outcome {
+/// What became of one case: how it ended, and which ways it went there, where the kind tells ways apart.
+#[derive(Clone, Debug, PartialEq, Eq)]
+pub struct Outcome {
+    pub end: End,
+    pub ways: Vec<&'static str>,
+}
+
+impl From<End> for Outcome {
+    fn from(end: End) -> Outcome {
+        Outcome { end, ways: Vec::new() }
+    }
+}
+
+/// An end in words.
+pub fn told(end: End) -> String {
+    match end {
         Some(0) => "accepted".to_string(),
         Some(number) => format!("refused {number}"),
         None => "nothing done".to_string(),
@@ -24,13 +37,18 @@ pub fn cases(number: u64) -> String {
 pub struct Tally {
     counts: BTreeMap<u64, u64>,
     nothing_done: u64,
+    ways: BTreeMap<&'static str, u64>,
 }
 
 impl Tally {
-    pub fn add(&mut self, outcome: Outcome) {
-        match outcome {
+    pub fn add(&mut self, outcome: impl Into<Outcome>) {
+        let Outcome { end, ways } = outcome.into();
+        match end {
             Some(number) => *self.counts.entry(number).or_default() += 1,
             None => self.nothing_done += 1,
+        }
+        for way in ways {
+            *self.ways.entry(way).or_default() += 1;
         }
     }
 
@@ -39,6 +57,9 @@ impl Tally {
             *self.counts.entry(number).or_default() += count;
         }
         self.nothing_done += other.nothing_done;
+        for (&way, count) in &other.ways {
+            *self.ways.entry(way).or_default() += count;
+        }
     }
 
     /// All cases, whatever became of them.
@@ -57,6 +78,21 @@ impl Tally {
             words += &format!(", nothing done {}", self.nothing_done);
         }
         words
+    }
+
+    /// How often each of these ways was gone, a line for each.
+    pub fn ways(&self, owed: &[&str]) -> String {
+        owed.iter().map(|way| format!("{:>9} {way}\n", self.ways.get(way).unwrap_or(&0))).collect()
+    }
+
+    /// Fails if one of the ways that are owed was never gone.
+    pub fn gone(&self, name: &str, owed: &[&str]) -> Result<(), String> {
+        let missed: Vec<&str> = owed.iter().copied().filter(|way| !self.ways.contains_key(way)).collect();
+        if missed.is_empty() {
+            Ok(())
+        } else {
+            Err(format!("{name}: never reached, though owed: {}", missed.join("; ")))
+        }
     }
 
     /// Fails if one of the outcomes that are owed was never reached.
@@ -81,7 +117,7 @@ impl Tally {
 mod tests {
     use super::*;
 
-    fn tally(outcomes: &[Outcome]) -> Tally {
+    fn tally(outcomes: &[End]) -> Tally {
         let mut tally = Tally::default();
         outcomes.iter().for_each(|&outcome| tally.add(outcome));
         tally
@@ -109,5 +145,19 @@ mod tests {
         assert_eq!(some.reached("read", &[0, 9]), Ok(()));
         assert!(some.reached("read", &[0, 9, 10]).unwrap_err().contains("refused 10"));
         assert!(tally(&[Some(9), None]).reached("read", &[0]).unwrap_err().contains("accepted"));
+    }
+
+    #[test]
+    fn a_way_that_is_owed_and_not_gone_is_named() {
+        let mut some = Tally::default();
+        some.add(Outcome { end: Some(0), ways: vec!["blank", "itself"] });
+        let mut more = Tally::default();
+        more.add(Outcome { end: Some(0), ways: vec!["blank"] });
+        some.merge(&more);
+        assert_eq!(some.ways(&["itself", "blank"]), "        1 itself\n        2 blank\n");
+        assert_eq!(some.ways(&["value"]), "        0 value\n");
+        assert_eq!(some.gone("cell", &["blank", "itself"]), Ok(()));
+        assert_eq!(some.gone("cell", &["value", "blank"]).unwrap_err(), "cell: never reached, though owed: value");
+        assert_eq!(some.cases(), 2);
     }
 }

@@ -13,8 +13,16 @@ use crate::random::{large_kind, seed_of, slices, tables, Random};
 use crate::sheet;
 use crate::tally::Outcome;
 
-pub const KIND: Kind =
-    Kind { name: "doubled", gate: 6_024, owed: &[0], threads: 1, of_program: false, named: cases_by_name, trial };
+pub const KIND: Kind = Kind {
+    name: "doubled",
+    gate: 6_024,
+    owed: &[0],
+    ways: &[],
+    threads: 1,
+    of_program: false,
+    named: cases_by_name,
+    trial,
+};
 /// One trial in so many is of a large site.
 const EVERY: u64 = 502;
 /// The greatest k.
@@ -94,7 +102,7 @@ fn differ<T: PartialEq + std::fmt::Debug>(name: &str, expected: T, got: T) -> Re
 fn trial(choice: &Choice, number: u64) -> Result<Outcome, String> {
     let mut random = Random::new(seed_of(choice.seed, number));
     let site = some_site(&mut random, large_kind(number, EVERY));
-    keeps_the_law(&mut random, &site).map(|()| Some(0))
+    keeps_the_law(&mut random, &site).map(|()| Some(0).into())
 }
 
 /// The sites of the joins by name that are accepted.

@@ -13,6 +13,7 @@ pub const KIND: Kind = Kind {
     gate: 24_032,
     // Every outcome that a sheet can have. 2, 3, 6 and 7 cannot be caused by one.
     owed: &[0, 1, 4, 5, 8, 9, 10, 11, 12],
+    ways: &[],
     threads: 1,
     of_program: false,
     named: cases_by_name,
@@ -129,7 +130,7 @@ fn trial(choice: &Choice, number: u64) -> Result<Outcome, String> {
     let listing = sheet::listing(&text);
     let room = some_room(&mut random, &listing);
     let (value, _) = call(&mut random, &text, &listing, room)?;
-    Ok(Some(outcome(value)))
+    Ok(Some(outcome(value)).into())
 }
 
 /// The listings by name, in buffers that just fit, that are a byte short, that are long, and in none.

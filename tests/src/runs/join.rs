@@ -12,6 +12,7 @@ pub const KIND: Kind = Kind {
     name: "join",
     gate: 30_120,
     owed: &[0, 1, 2, 3, 4, 5, 6, 7, 8],
+    ways: &[],
     threads: 1,
     of_program: false,
     named: cases_by_name,
@@ -34,7 +35,7 @@ impl Trial {
         let Tables { k, offsets, codes } = &self.tables;
         let expected = paper::join(*k, offsets, codes, self.rooms);
         self.call(random, &expected)?;
-        Ok((self.answer >= 4).then_some(expected.answer[0]))
+        Ok((self.answer >= 4).then_some(expected.answer[0]).into())
     }
 
     /// Calls the join with junk in each buffer and compares all with what is expected; gives the buffers.
@@ -84,7 +85,7 @@ impl Trial {
 }
 
 /// A k of 1 to 64, often about the number of pairs that share a code.
-fn some_k(random: &mut Random, sharing: usize) -> u16 {
+pub fn some_k(random: &mut Random, sharing: usize) -> u16 {
     let k = match random.below(10) {
         0 | 1 => 1,
         2 => 2,

@@ -1,5 +1,7 @@
 //! One file a subcommand, and what they have in common.
 
+#[cfg(all(feature = "probe", feature = "host"))]
+pub mod cell;
 #[cfg(feature = "probe")]
 pub mod doubled;
 #[cfg(feature = "host")]
@@ -37,6 +39,8 @@ pub struct Kind {
     pub gate: u64,
     /// The outcomes that so many random cases must reach.
     pub owed: &'static [u64],
+    /// The ways that they must have gone, where this kind tells ways apart.
+    pub ways: &'static [&'static str],
     /// How many threads share a processor. More than one helps where trials wait.
     pub threads: u64,
     /// Whether it needs the path of the program.
@@ -57,6 +61,8 @@ pub const KINDS: &[&Kind] = &[
     &sheets::WRITE,
     #[cfg(feature = "probe")]
     &doubled::KIND,
+    #[cfg(all(feature = "probe", feature = "host"))]
+    &cell::KIND,
     #[cfg(feature = "host")]
     &host::KIND,
     #[cfg(feature = "host")]
@@ -79,10 +85,12 @@ impl Kind {
             .map_err(|difference| self.differs(choice, difference))?;
         let seconds = start.elapsed().as_secs_f64();
         println!("{}, random: {} in {seconds:.1} s; {}", self.name, cases(tally.cases()), tally.words());
+        print!("{}", tally.ways(self.ways));
         // Few cases owe nothing.
         if n >= self.gate {
-            let again = || self.again(choice, &format!("N={n}"), &format!("n={n}"));
-            tally.reached(self.name, self.owed).map_err(|what| format!("{what}\n{}", again()))?;
+            let again = |what| format!("{what}\n{}", self.again(choice, &format!("N={n}"), &format!("n={n}")));
+            tally.reached(self.name, self.owed).map_err(again)?;
+            tally.gone(self.name, self.ways).map_err(again)?;
         }
         Ok(tally)
     }
@@ -90,7 +98,7 @@ impl Kind {
     /// The cases by name. They are repeated by a run with no random ones.
     fn by_name(&self, choice: &Choice) -> Result<(), String> {
         crash::now(self.command(choice, "N="), 0);
-        let agree = guarded(|_| (self.named)(choice).map(|()| None), 0);
+        let agree = guarded(|_| (self.named)(choice).map(|()| None.into()), 0);
         crash::over();
         agree.map_err(|difference| format!("{}\n{}", difference.what, self.again(choice, "N=0", "n=0")))?;
         Ok(())
@@ -99,7 +107,7 @@ impl Kind {
     /// One trial alone.
     fn one(&self, choice: &Choice, number: u64) -> Result<Tally, String> {
         let outcome = guarded(self.watched(choice), number).map_err(|difference| self.differs(choice, difference))?;
-        println!("{}: trial {number} of seed {} agrees; {}", self.name, choice.seed, told(outcome));
+        println!("{}: trial {number} of seed {} agrees; {}", self.name, choice.seed, told(outcome.end));
         let mut tally = Tally::default();
         tally.add(outcome);
         Ok(tally)
@@ -157,8 +165,11 @@ mod tests {
     }
 
     fn kind(of_program: bool) -> Kind {
-        let trial = |_: &Choice, number: u64| if number == 123_456 { Err("wrong".to_string()) } else { Ok(Some(0)) };
-        Kind { name: "join", gate: 10, owed: &[0, 3], threads: 1, of_program, named: |_| Ok(()), trial }
+        let trial = |_: &Choice, number: u64| match number {
+            123_456 => Err("wrong".to_string()),
+            _ => Ok(Outcome { end: Some(0), ways: vec!["straight"] }),
+        };
+        Kind { name: "join", gate: 10, owed: &[0, 3], ways: &[], threads: 1, of_program, named: |_| Ok(()), trial }
     }
 
     #[test]
@@ -184,6 +195,17 @@ mod tests {
         assert!(kind(false).run(&Choice { n: Some(10), ..choice(None) }).unwrap_err().contains("refused 3"));
         let wrong = kind(false).run(&choice(None)).unwrap_err();
         assert!(wrong.contains("refused 3") && wrong.ends_with("make trials KIND=join SEED=7 N=10"), "{wrong}");
+    }
+
+    #[test]
+    fn ways_are_owed_by_a_long_run_alone() {
+        let straight = Kind { owed: &[0], ways: &["straight"], ..kind(false) };
+        assert!(straight.run(&choice(None)).is_ok());
+        let round = Kind { owed: &[0], ways: &["straight", "round"], ..kind(false) };
+        assert!(round.run(&Choice { n: Some(9), ..choice(None) }).is_ok());
+        let told = "join: never reached, though owed: round\n\
+            To see it again: make trials KIND=join SEED=7 N=10";
+        assert_eq!(round.run(&choice(None)), Err(told.to_string()));
     }
 
     #[test]

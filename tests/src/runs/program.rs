@@ -19,6 +19,7 @@ pub const KIND: Kind = Kind {
     name: "program",
     gate: 408,
     owed: &[0, 1, 4, 5, 8, 9, 10, 11],
+    ways: &[],
     // Most of the time is spent in pauses.
     threads: 8,
     of_program: true,
@@ -197,7 +198,7 @@ fn trial(choice: &Choice, number: u64) -> Result<Outcome, String> {
         None => host::host_sheet(&mut random, number),
     };
     let chunks = some_chunks(&mut random, number);
-    compare(path_of(choice), &mut random, &text, &chunks).map(Some)
+    compare(path_of(choice), &mut random, &text, &chunks).map(|number| Some(number).into())
 }
 
 /// The listings by name, fed at once, byte by byte, and in halves.

@@ -14,6 +14,7 @@ pub const READ: Kind = Kind {
     name: "read",
     gate: 80_000,
     owed: &[0, 9, 10, 11],
+    ways: &[],
     threads: 1,
     of_program: false,
     named: readings_by_name,
@@ -24,6 +25,7 @@ pub const WRITE: Kind = Kind {
     name: "write",
     gate: 20_000,
     owed: &[0, 1, 2, 3, 4, 5, 12],
+    ways: &[],
     threads: 1,
     of_program: false,
     named: writings_by_name,
@@ -149,7 +151,7 @@ fn read_trial(random: &mut Random) -> Result<Outcome, String> {
     let answer_room = some_answer_room(random);
     let done = read(random, &text, offset_room, code_room, answer_room)?;
     if answer_room < 4 {
-        return Ok(None);
+        return Ok(None.into());
     }
     if done.answer[0] == 0 {
         let (contexts, codes) = (done.answer[2] as usize, done.answer[3] as usize);
@@ -165,7 +167,7 @@ fn read_trial(random: &mut Random) -> Result<Outcome, String> {
             }
         }
     }
-    Ok(Some(done.answer[0]))
+    Ok(Some(done.answer[0]).into())
 }
 
 /// Tables written; and if that is accepted, read back the same into tables that just fit.
@@ -202,7 +204,7 @@ fn write_trial(random: &mut Random) -> Result<Outcome, String> {
     let answer_room = some_answer_room(random);
     let (answer, text) = write(random, &tables, room, answer_room)?;
     if answer_room < 4 {
-        return Ok(None);
+        return Ok(None.into());
     }
     if answer[0] == 0 {
         let text = &text[..answer[1] as usize];
@@ -218,7 +220,7 @@ fn write_trial(random: &mut Random) -> Result<Outcome, String> {
             ));
         }
     }
-    Ok(Some(answer[0]))
+    Ok(Some(answer[0]).into())
 }
 
 /// The worked examples by name: with exactly the words they speak of, and the place they state.
