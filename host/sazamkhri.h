@@ -203,7 +203,7 @@ uint64_t sazamkhri_listing(const uint8_t *sheet, size_t sheet_len, uint8_t *text
  *   Doubles are rounded to nearest, and an inexact result does not stop the
  *   program: so every C program begins. One that rounds otherwise (fesetround)
  *   gets the quotient rounded so; that is tested, and not proved.
- *   1 KB of stack is left (SAZAMKHRI_CELL_STACK). (Measured: under 256 bytes.)
+ *   1 KB of stack is left (SAZAMKHRI_CELL_STACK). (Measured: under 128 bytes.)
  *
  * What the caller gets
  *
