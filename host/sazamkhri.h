@@ -57,7 +57,7 @@ extern "C" {
  * sazamkhri_listing, and a cell's kind from sazamkhri_cell. */
 #define SAZAMKHRI_REFUSED UINT64_C(1000000)
 
-/* The bytes of stack that a call may use: see 'What the caller owes'. */
+/* The bytes of stack that each call may use: see 'What the caller owes'. */
 #define SAZAMKHRI_STACK 49152
 #define SAZAMKHRI_CELL_STACK 1024
 
