@@ -45,7 +45,7 @@ extern "C" {
 /* The most pairs of a listing, since k is at most 64. */
 #define SAZAMKHRI_PAIRS_LIMIT 64
 
-/* The words of an entry in a list of pairs, one for each number of a `pair=`
+/* The words of 16 bits in an entry of a list: one for each number of a `pair=`
  * line. */
 #define SAZAMKHRI_ENTRY_WORDS 4
 
@@ -156,9 +156,10 @@ uint64_t sazamkhri_listing(const uint8_t *sheet, size_t sheet_len, uint8_t *text
  *   first, second    the two contexts, in either order. Contexts count from 0
  *   value            where the value goes
  *
- * The four numbers of a `pair=` line are an entry. With the entries of all `pair=`
- * lines of a listing, the number behind `found=` and the number behind `contexts=`
- * in its sheet, no cell of two of these contexts is refused.
+ * The four numbers of a `pair=` line are an entry, and SAZAMKHRI_PAIRS_LIMIT entries
+ * hold every listing. With all entries of a listing, the number behind its `found=`
+ * and the number behind `contexts=` in its sheet, no two of these contexts are
+ * refused.
  *
  * The call gives
  *
@@ -185,9 +186,10 @@ uint64_t sazamkhri_listing(const uint8_t *sheet, size_t sheet_len, uint8_t *text
  *       higher not below contexts, no code is shared, or more codes are shared
  *       than are in either.
  *
- * Each call looks at all entries that count: one that is wrong is refused wherever
- * it stands, also for a context against itself. What stands behind them makes no
- * difference. There may be more than 256 contexts and more than 64 entries.
+ * Each call looks at all entries that count. It refuses if one of them is wrong,
+ * whichever cell it is asked for, also that of a context against itself. What
+ * stands behind them makes no difference. There may be more than 256 contexts and
+ * more than 64 entries.
  *
  * What the caller owes
  *
