@@ -184,7 +184,7 @@ taken() {
     in_cell "taken: $2" "if (told == 1000017 && entries == 1 && list_len == 4 && $1) told = 0;" "$2 .*WRONG"
 }
 
-# What a careless builder could do in a cell: beside its buffers, in its answer, in the order of its checks.
+# What a careless builder could do in a cell. First around it: beside its buffers, and with what calls share.
 cell_mistakes() {
     in_cell "a double written behind the value" 'value[1] = 0.0;' "Segmentation fault"
     in_cell "a double written before the value" 'value[-1] = 0.0;' "Segmentation fault"
@@ -193,6 +193,16 @@ cell_mistakes() {
     in_cell "an entry too many read" 'if (told < 2) told += ((volatile const uint16_t *)list)[4 * entries] & 0;' \
         "Segmentation fault"
     in_cell "a word of the list written" 'if (list_len) ((volatile uint16_t *)list)[0] = list[0];' "Segmentation fault"
+    library cell "a value that threads share" \
+        "$(cell_with 'static volatile double last; last = *value; sched_yield(); *value = last;')" "-include sched.h" \
+        "four threads, the same lists .*WRONG" calls
+    in_cell "the way to round left changed" '__builtin_ia32_ldmxcsr(0x7F80);' "rounded to nearest.* WRONG"
+    in_cell "2,000 bytes of stack" 'volatile char much[2000]; much[0] = 0; much[1999] = 0;' \
+        "the most of all cells .*WRONG"
+}
+
+# In its answer.
+cell_answer_mistakes() {
     in_cell "the value kept for a refusal" 'if (told > 1) *value = before;' "there are no contexts .*WRONG"
     in_cell "the value kept for a blank cell" 'if (told == 0) *value = before;' "a context against itself .*WRONG"
     in_cell "a blank cell with -0.0" 'if (told == 0) *value = -0.0;' "a context against itself .*WRONG"
@@ -206,8 +216,10 @@ cell_mistakes() {
         "a context against itself .*WRONG"
     in_cell "256 contexts at most" 'if (contexts > 256) { told = 1000017; *value = 0.0; }' "257 contexts.* WRONG"
     in_cell "64 entries at most" 'if (entries > 64) told = told == 1 ? 0 : told;' "the last of 65,534 entries .*WRONG"
-    in_cell "a wrong entry far behind" 'if (told == 1000017 && entries == 65534) told = 1;' \
-        "entries, if it is wrong .*WRONG"
+}
+
+# In its checks, and in their order.
+cell_check_mistakes() {
     in_cell "the count before the contexts" 'if (entries > list_len / 4) told = 1000017;' \
         "no such context, and too many entries .*WRONG"
     in_cell "the entries before the contexts" \
@@ -225,17 +237,13 @@ cell_mistakes() {
     in_cell "no look at the entries for a context against itself" \
         'if (first == second && first < contexts && entries <= list_len / 4) told = 0;' \
         "a wrong entry, a context against itself .*WRONG"
+    in_cell "a wrong entry far behind" 'if (told == 1000017 && entries == 65534) told = 1;' \
+        "entries, if it is wrong .*WRONG"
     taken 'list[0] == list[1]' "an entry of one context"
     taken 'list[0] > list[1]' "an entry whose contexts fall"
     taken 'list[1] >= contexts' "an entry with no such context"
     taken 'list[2] == 0' "an entry with nothing shared"
     taken 'list[2] > list[3]' "an entry with more shared than in either"
-    library cell "a value that threads share" \
-        "$(cell_with 'static volatile double last; last = *value; sched_yield(); *value = last;')" "-include sched.h" \
-        "four threads, the same lists .*WRONG" calls
-    in_cell "the way to round left changed" '__builtin_ia32_ldmxcsr(0x7F80);' "rounded to nearest.* WRONG"
-    in_cell "2,000 bytes of stack" 'volatile char much[2000]; much[0] = 0; much[1999] = 0;' \
-        "the most of all cells .*WRONG"
 }
 
 archive_mistakes() {
@@ -296,6 +304,8 @@ list_sheet_mistakes
 check_mistakes
 call_mistakes
 cell_mistakes
+cell_answer_mistakes
+cell_check_mistakes
 archive_mistakes
 readme_mistakes
 install_mistakes
