@@ -34,7 +34,7 @@ symbols() {
     nm --undefined-only "$archive" | awk 'NF == 2 { print $2 }' | sort -u > "$place/needs"
     nm --extern-only --defined-only "$archive" | awk 'NF == 3 { print $2, $3 }' > "$place/gives"
     same "symbols it needs" "$(cat "$place/needs")" memset
-    same "symbols it gives" "$(cat "$place/gives")" "T sazamkhri_listing"
+    same "symbols it gives" "$(sort "$place/gives")" "T sazamkhri_cell"$'\n'"T sazamkhri_listing"
 }
 
 machine() {
@@ -49,7 +49,7 @@ instructions() {
     local newer='v.*|popcnt|[lt]zcnt|andn|bextr|bls.*|bzhi|mulx|pdep|pext|rorx|s[ah][lr]x|ad[co]x|movbe|crc32.?'
     newer+='|h(add|sub)p.|addsubp.|mov(d|sh|sl)dup|lddqu|pshufb|palignr|pabs.|psign.|ph(add|sub).*|pmaddubsw|pmulhrsw'
     newer+='|pmulld|pmuldq|p?blend.*|round..|dpp.|ptest|pmov[sz]x.*|pm(in|ax)(s[bd]|u[wd])'
-    newer+='|p(ins|ext)r[bdq]|pcmp.*(q|str.)'
+    newer+='|p(ins|ext)r[bdq]|pcmp.*(q|str.)|(insert|extract)ps|packusdw|mpsadbw|movntdqa|phminposuw|fisttp.*'
     objdump -d "$archive" | awk -F '\t' 'NF > 2 { split($3, word, " "); print word[1] }' | sort -u > "$place/code"
     same "a call and a return in the code" "$(grep -c -x -E 'call|ret' "$place/code")" 2
     same "newer instructions" "$(awk -v newer="^($newer)\$" '$1 ~ newer' "$place/code")" ""
@@ -88,7 +88,7 @@ static_program() {
     fi
 }
 
-# A shared object that has the call in it, and a program that loads it.
+# A shared object that has the calls in it, and a program that loads it: it prints a listing if a cell is right.
 shared_object() {
     cat > "$place/load.c" <<'END'
 #include <dlfcn.h>
@@ -97,10 +97,15 @@ shared_object() {
 int main(int argc, char **argv) {
     static uint8_t text[2048];
     static const char sheet[] = "k=1\ncontexts=3\nc=2 3 4 5\nc=1 2 3 4 5\nc=1 2 3 4\n";
+    static const uint16_t list[] = {0, 1, 4, 5};
+    double value = 0.0;
     void *object = argc == 2 ? dlopen(argv[1], RTLD_NOW) : NULL;
     uint64_t (*listing)(const uint8_t *, size_t, uint8_t *, size_t);
+    uint64_t (*cell)(uint16_t, const uint16_t *, size_t, size_t, uint16_t, uint16_t, double *);
     if (object == NULL) { fprintf(stderr, "%s\n", dlerror()); return 2; }
     *(void **)&listing = dlsym(object, "sazamkhri_listing");
+    *(void **)&cell = dlsym(object, "sazamkhri_cell");
+    if (cell(3, list, 4, 1, 1, 0, &value) != 1 || value != 0.8) { fprintf(stderr, "another cell\n"); return 3; }
     return fwrite(text, 1, listing((const uint8_t *)sheet, sizeof sheet - 1, text, sizeof text), stdout) == 0;
 }
 END
@@ -121,4 +126,4 @@ program no-pie -fno-pie -no-pie
 static_program
 shared_object
 [ "$wrong" -eq 0 ] || { echo "$archive: $wrong wrong"; exit 1; }
-echo "$(basename "$archive"): memset alone, one call, x86-64, no data, and it links everywhere"
+echo "$(basename "$archive"): memset alone, two calls, x86-64, no data, and it links everywhere"

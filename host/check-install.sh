@@ -1,6 +1,6 @@
 #!/usr/bin/env bash
 # Checks what README says to C programmers: its own lines, typed in a folder elsewhere, install the library, compile
-# README's own program against the installed files alone, and run it. As C99, C++11 and C++17, and below folders with
+# README's own programs against the installed files alone, and run them. As C99, C++11 and C++17, and below folders with
 # the names that people have. Then: which files are installed, with which modes, and that they can be removed.
 #
 #     host/check-install.sh [PART..]
@@ -57,7 +57,7 @@ typed() {
     (cd "$place/elsewhere" && env -i HOME="$1" PATH="$place/bin:$PATH" ROOT="$root" sh -e -c "$2" 2> "$place/err")
 }
 
-# listed WHAT HOME LINES: README's lines compile its program, and print the stored listing.
+# listed WHAT HOME LINES: README's lines compile its first program, and print the stored listing.
 listed() {
     rm -f "$place/elsewhere/my_program"
     typed "$2" "$3" > "$place/out" || problem "$1: $(head -n 5 "$place/err")"
@@ -65,11 +65,23 @@ listed() {
     compiled=$((compiled + 1))
 }
 
-# In the folder where the lines are typed there is README's program and a sheet, and nothing of the project else.
+# told_cell WHAT HOME LINES: the same lines compile its second program, which prints what README says.
+told_cell() {
+    rm -f "$place/elsewhere/my_cell"
+    typed "$2" "${3//my_program/my_cell}" > "$place/out" || problem "$1: $(head -n 5 "$place/err")"
+    [ "$(cat "$place/out")" = "$cell" ] || problem "$1: '$(cat "$place/out")' in the cell, not '$cell'"
+    compiled=$((compiled + 1))
+}
+
+# In the folder where the lines are typed there are README's programs and a sheet, and nothing of the project else.
 # `make install` hands its PREFIX to install.sh. Another PREFIX than one below the home is not tried: it might be real.
 prepare() {
     mkdir "$place/elsewhere"
-    block c 'int main' > "$place/elsewhere/my_program.c"
+    block c 'int main.*sazamkhri_listing' > "$place/elsewhere/my_program.c"
+    block c 'int main.*sazamkhri_cell' > "$place/elsewhere/my_cell.c"
+    # shellcheck disable=SC2016
+    cell=$(sed -n 's/^This program, `my_cell.c`, .* It prints `\([^`]*\)`.*/\1/p' README.md)
+    [ -n "$cell" ] || problem "README does not say what my_cell.c prints"
     cp examples/three.sheet "$place/elsewhere/my.sheet"
     # shellcheck disable=SC2016
     command_for make '[ "$*" = "install PREFIX=$HOME/.local" ] || { echo "make $*: not tried" >&2; exit 2; }
@@ -90,12 +102,14 @@ as() {
     listed "plain flags, $1" "$place/home" "$plain"
     listed "pkg-config, $1" "$place/home" "$packaged"
     listed "eval, $1" "$place/home" "$evaluated"
+    told_cell "plain flags, $1" "$place/home" "$plain"
 }
 
 c99() {
     as "C99" "$cc -std=c99 $strict"
     refusals_told
-    declaration
+    declaration sazamkhri_listing
+    declaration sazamkhri_cell
 }
 
 cxx11() { as "C++11" "$cxx -std=c++11 $strict -x c++"; }
@@ -118,12 +132,12 @@ refusals_told() {
     done
 }
 
-# README's declaration is that of the header: C takes a function twice, if it is the same.
+# declaration NAME: README's declaration is that of the header: C takes a function twice, if it is the same.
 declaration() {
-    { echo '#include <sazamkhri.h>'; block c '^uint64_t sazamkhri_listing'; } > "$place/elsewhere/twice.c"
+    { echo '#include <sazamkhri.h>'; block c "^uint64_t $1"; } > "$place/elsewhere/twice.c"
     # shellcheck disable=SC2016
     typed "$place/home" 'cc -c twice.c -I"$HOME/.local/include" -o twice.o' ||
-        problem "declaration: $(cat "$place/err")"
+        problem "declaration of $1: $(cat "$place/err")"
 }
 
 # Homes with the names that people have. pkg-config prints $ and brackets as they are: there, plain flags only.
@@ -215,4 +229,4 @@ for part in "$@"; do
     "$part"
 done
 [ "$wrong" -eq 0 ] || { echo "install: $wrong wrong"; exit 1; }
-echo "README's lines compiled README's program $compiled times from the installed files; installed and removed as said"
+echo "README's lines compiled README's programs $compiled times from the installed files; installed and removed as said"

@@ -1,8 +1,9 @@
 /*
- * Tries the host call at its borders: every byte of the buffer and beside it, the
- * order of the refusals, empty sheets and buffers, sheets that take each way
- * through the search, the longest sheets, several threads at a time, and the
- * stack that the call needs. Exits with 1 if one fails.
+ * Tries the two host calls at their borders: every byte of the buffers and beside
+ * them, the order of the refusals, empty sheets, lists and buffers, sheets that
+ * take each way through the search, the longest sheets, every bit of a cell's
+ * value, several threads at a time, and the stack that the calls need. Exits with
+ * 1 if one fails.
  */
 #define _DEFAULT_SOURCE
 #include <pthread.h>
@@ -15,6 +16,7 @@
 #include <sys/resource.h>
 #include <sys/wait.h>
 #include <unistd.h>
+#include <xmmintrin.h>
 
 #include "sazamkhri.h"
 
@@ -179,7 +181,7 @@ static struct sheet *next(void) {
 }
 
 static void make_sheets(void) {
-    twins(next(), "256 contexts with 16 codes, 64 pairs listed", 64, 256, 16);
+    twins(next(), "256 contexts with 16 codes, 64 pairs listed", SAZAMKHRI_PAIRS_LIMIT, 256, 16);
     twins(next(), "111 contexts with 36 codes, 55 twins", 55, 111, 36);
     twins(next(), "110 contexts with 37 codes", 55, 110, 37);
     twins(next(), "64 contexts with 64 codes, all events", 64, 64, 64);
@@ -272,37 +274,247 @@ static void borders(void) {
     }
 }
 
+/*
+ * Cells of heat maps: a call each, what it has to give, and the bits of the value, which were worked out in whole
+ * numbers. A cell without a value has those of 0.0.
+ */
+struct cell {
+    const char *name;
+    uint16_t contexts, first, second;
+    size_t entries, list_len;
+    uint16_t list[8];
+    uint64_t told, bits;
+};
+
+#define NO_CONTEXT (SAZAMKHRI_REFUSED + SAZAMKHRI_NO_SUCH_CONTEXT)
+#define BROKEN (SAZAMKHRI_REFUSED + SAZAMKHRI_LIST_BROKEN)
+#define FOUR_FIFTHS UINT64_C(0x3FE999999999999A)
+#define ONE UINT64_C(0x3FF0000000000000)
+
+static const struct cell cells[] = {
+    {"a listed pair", 3, 0, 1, 1, 4, {0, 1, 4, 5}, SAZAMKHRI_VALUE, FOUR_FIFTHS},
+    {"the second pair listed", 3, 0, 2, 2, 8, {0, 1, 4, 5, 0, 2, 1, 3}, SAZAMKHRI_VALUE, UINT64_C(0x3FD5555555555555)},
+    {"the earlier of two entries", 3, 0, 1, 2, 8, {0, 1, 4, 5, 0, 1, 7, 7}, SAZAMKHRI_VALUE, FOUR_FIFTHS},
+    {"a wrong entry behind the count", 3, 0, 1, 1, 8, {0, 1, 4, 5, 2, 1, 0, 0}, SAZAMKHRI_VALUE, FOUR_FIFTHS},
+    {"three words behind the last entry", 3, 0, 1, 1, 7, {0, 1, 4, 5, 9, 9, 9}, SAZAMKHRI_VALUE, FOUR_FIFTHS},
+    {"all codes shared", 2, 0, 1, 1, 4, {0, 1, 7, 7}, SAZAMKHRI_VALUE, ONE},
+    {"1 code shared of 3", 2, 0, 1, 1, 4, {0, 1, 1, 3}, SAZAMKHRI_VALUE, UINT64_C(0x3FD5555555555555)},
+    {"99 codes shared of 100", 2, 0, 1, 1, 4, {0, 1, 99, 100}, SAZAMKHRI_VALUE, UINT64_C(0x3FEFAE147AE147AE)},
+    {"100 codes shared of 101", 2, 0, 1, 1, 4, {0, 1, 100, 101}, SAZAMKHRI_VALUE, UINT64_C(0x3FEFAEE41E6A7498)},
+    {"1 code shared of 65,535", 2, 0, 1, 1, 4, {0, 1, 1, 65535}, SAZAMKHRI_VALUE, UINT64_C(0x3EF0001000100010)},
+    {"65,534 of 65,535", 2, 0, 1, 1, 4, {0, 1, 65534, 65535}, SAZAMKHRI_VALUE, UINT64_C(0x3FEFFFDFFFDFFFE0)},
+    {"65,535 of 65,535", 2, 0, 1, 1, 4, {0, 1, 65535, 65535}, SAZAMKHRI_VALUE, ONE},
+    {"257 contexts, the last pair", 257, 255, 256, 1, 4, {255, 256, 4, 5}, SAZAMKHRI_VALUE, FOUR_FIFTHS},
+    {"65,535 contexts, the last pair", 65535, 65533, 65534, 1, 4, {65533, 65534, 7, 7}, SAZAMKHRI_VALUE, ONE},
+    {"a context against itself", 3, 1, 1, 1, 4, {0, 1, 4, 5}, SAZAMKHRI_BLANK, 0},
+    {"the only context against itself", 1, 0, 0, 0, 0, {0}, SAZAMKHRI_BLANK, 0},
+    {"a pair that is not listed", 3, 0, 2, 1, 4, {0, 1, 4, 5}, SAZAMKHRI_BLANK, 0},
+    {"a pair listed behind the count", 3, 0, 2, 1, 8, {0, 1, 4, 5, 0, 2, 1, 3}, SAZAMKHRI_BLANK, 0},
+    {"a pair listed, no entry counts", 3, 0, 1, 0, 4, {0, 1, 4, 5}, SAZAMKHRI_BLANK, 0},
+    {"no list", 3, 0, 1, 0, 0, {0}, SAZAMKHRI_BLANK, 0},
+    {"a cell where there are no contexts", 0, 0, 0, 0, 0, {0}, NO_CONTEXT, 0},
+    {"a context number at the contexts", 3, 0, 3, 1, 4, {0, 1, 4, 5}, NO_CONTEXT, 0},
+    {"the same context number twice", 3, 3, 3, 1, 4, {0, 1, 4, 5}, NO_CONTEXT, 0},
+    {"context 65,535 of 65,535", 65535, 0, 65535, 0, 0, {0}, NO_CONTEXT, 0},
+    {"no such context, and too many entries", 3, 3, 0, SIZE_MAX, 4, {0, 1, 4, 5}, NO_CONTEXT, 0},
+    {"no such context, and a wrong entry", 3, 3, 0, 1, 4, {1, 0, 4, 5}, NO_CONTEXT, 0},
+    {"an entry too many", 3, 0, 1, 2, 4, {0, 1, 4, 5}, BROKEN, 0},
+    {"an entry too many by a word", 3, 0, 1, 2, 7, {0, 1, 4, 5, 0, 2, 1}, BROKEN, 0},
+    {"an entry, and no list", 3, 0, 1, 1, 0, {0}, BROKEN, 0},
+    {"an entry too many, a context against itself", 3, 1, 1, 2, 4, {0, 1, 4, 5}, BROKEN, 0},
+    {"as many entries as can be said", 3, 0, 1, SIZE_MAX, 4, {0, 1, 4, 5}, BROKEN, 0},
+    {"entries whose words are 0 in 64 bits", 3, 0, 1, SIZE_MAX / 4 + 1, 4, {0, 1, 4, 5}, BROKEN, 0},
+    {"entries whose words are 4 in 64 bits", 3, 0, 1, SIZE_MAX / 4 + 2, 4, {0, 1, 4, 5}, BROKEN, 0},
+    {"an entry of one context", 3, 0, 2, 1, 4, {1, 1, 4, 5}, BROKEN, 0},
+    {"an entry whose contexts fall", 3, 0, 1, 1, 4, {1, 0, 4, 5}, BROKEN, 0},
+    {"an entry with no such context", 3, 0, 1, 1, 4, {0, 3, 4, 5}, BROKEN, 0},
+    {"an entry with nothing shared", 3, 0, 1, 1, 4, {0, 1, 0, 5}, BROKEN, 0},
+    {"an entry with no codes at all", 3, 0, 1, 1, 4, {0, 1, 0, 0}, BROKEN, 0},
+    {"an entry with more shared than in either", 3, 0, 1, 1, 4, {0, 1, 6, 5}, BROKEN, 0},
+    {"a wrong entry before the pair", 3, 0, 1, 2, 8, {0, 2, 0, 5, 0, 1, 4, 5}, BROKEN, 0},
+    {"a wrong entry behind the pair", 3, 0, 1, 2, 8, {0, 1, 4, 5, 0, 2, 0, 5}, BROKEN, 0},
+    {"a wrong entry, a context against itself", 3, 1, 1, 2, 8, {0, 1, 4, 5, 0, 2, 0, 5}, BROKEN, 0},
+    {"a wrong entry, a pair that is not listed", 3, 1, 2, 2, 8, {0, 1, 4, 5, 0, 2, 0, 5}, BROKEN, 0},
+};
+
+enum { CELLS = sizeof cells / sizeof *cells };
+
+/*
+ * The call gives what it should, and the value has its bits, whatever stood there before. The list cannot be written,
+ * and no byte beside the list or beside the value can be read or written. A list of seven words that ends with a page
+ * is aligned for a word and for nothing more.
+ */
+static int celled(const struct cell *c, uint16_t first, uint16_t second, int at_end) {
+    size_t length = c->list_len * sizeof *c->list;
+    uint64_t bits = UINT64_C(0xA5A5A5A5A5A5A5A5);
+    struct fenced from = fence(length, at_end);
+    struct fenced to = fence(sizeof bits, at_end);
+    const uint16_t *list = (const void *)from.bytes;
+    double *value = (void *)to.bytes;
+    memcpy(from.bytes, c->list, length);
+    memcpy(value, &bits, sizeof bits);
+    need(length == 0 || mprotect(from.all + PAGE, from.size - 2 * PAGE, PROT_READ) == 0, "a list to read only");
+    uint64_t told = sazamkhri_cell(c->contexts, list, c->list_len, c->entries, first, second, value);
+    memcpy(&bits, value, sizeof bits);
+    unfence(from);
+    unfence(to);
+    return told == c->told && bits == c->bits;
+}
+
+/* Every case, with its contexts in both orders. */
+static void cell_borders(void) {
+    for (const struct cell *c = cells; c < cells + CELLS; c++) {
+        int ok = celled(c, c->first, c->second, 0) && celled(c, c->first, c->second, 1);
+        ok = ok && celled(c, c->second, c->first, 0) && celled(c, c->second, c->first, 1);
+        say(c->name, c->told, ok);
+    }
+}
+
+/* A list with an entry for each two neighbours of 65,535 contexts. The last is found, and refused once it is wrong. */
+static void long_list(void) {
+    enum { MANY = 65534, WORDS = MANY * SAZAMKHRI_ENTRY_WORDS };
+    struct fenced f = fence(WORDS * sizeof(uint16_t), 1);
+    uint16_t *list = (void *)f.bytes;
+    double value = -1.0;
+    for (size_t i = 0; i < MANY; i++) {
+        const uint16_t entry[] = {(uint16_t)i, (uint16_t)(i + 1), 4, 5};
+        memcpy(list + i * SAZAMKHRI_ENTRY_WORDS, entry, sizeof entry);
+    }
+    uint64_t told = sazamkhri_cell(MANY + 1, list, WORDS, MANY, MANY, MANY - 1, &value);
+    say("the last of 65,534 entries", told, told == SAZAMKHRI_VALUE && value == 0.8);
+    list[WORDS - 1] = 3;
+    told = sazamkhri_cell(MANY + 1, list, WORDS, MANY, 0, 1, &value);
+    say("the last of 65,534 entries, if it is wrong", told, told == BROKEN && value == 0.0);
+    unfence(f);
+}
+
+/* The entries that a listing has, one for each `pair=` line. */
+static size_t entries_of(const char *text, uint16_t *list) {
+    size_t entries = 0;
+    for (const char *line = strstr(text, "pair="); line != NULL; line = strstr(line + 1, "pair=")) {
+        uint16_t *e = list + entries * SAZAMKHRI_ENTRY_WORDS;
+        need(entries < SAZAMKHRI_PAIRS_LIMIT, "room for one more entry");
+        need(sscanf(line, "pair=%hu %hu %hu %hu\n", &e[0], &e[1], &e[2], &e[3]) == 4, "the numbers of an entry");
+        entries++;
+    }
+    return entries;
+}
+
+/* The entry that names two contexts, in either order, or NULL. */
+static const uint16_t *entry_of(const uint16_t *list, size_t entries, unsigned a, unsigned b) {
+    const uint16_t *found = NULL;
+    for (const uint16_t *e = list; e < list + entries * SAZAMKHRI_ENTRY_WORDS; e += SAZAMKHRI_ENTRY_WORDS) {
+        found = (e[0] == a && e[1] == b) || (e[0] == b && e[1] == a) ? e : found;
+    }
+    return found;
+}
+
+/* All cells of a sheet's heat map. Those of its listing's pairs have a value, the others are blank, none is refused. */
+static void heat_map(const struct sheet *s) {
+    uint16_t list[SAZAMKHRI_PAIRS_LIMIT * SAZAMKHRI_ENTRY_WORDS];
+    unsigned contexts = 0, values = 0;
+    int ok = 1;
+    memset(list, 0xA5, sizeof list);
+    size_t entries = entries_of(s->listing, list);
+    need(sscanf(s->bytes, "k=%*u\ncontexts=%u\n", &contexts) == 1, "the number of contexts");
+    for (unsigned i = 0; i < contexts * contexts; i++) {
+        uint16_t a = (uint16_t)(i / contexts), b = (uint16_t)(i % contexts);
+        const uint16_t *e = entry_of(list, entries, a, b);
+        double value = -1.0;
+        uint64_t told = sazamkhri_cell((uint16_t)contexts, list, sizeof list / sizeof *list, entries, a, b, &value);
+        ok = ok && told == (e ? SAZAMKHRI_VALUE : SAZAMKHRI_BLANK) && value == (e ? (double)e[2] / e[3] : 0.0);
+        values += told == SAZAMKHRI_VALUE;
+    }
+    say(s->name, values, ok && values == 2 * entries);
+}
+
+static void heat_maps(void) {
+    printf("heat maps, and how many of their cells have a value:\n");
+    for (size_t i = 0; i < many; i++) {
+        if (sheets[i].value < SAZAMKHRI_REFUSED) {
+            heat_map(&sheets[i]);
+        }
+    }
+}
+
+/* The bits of a value as the processor rounds now. Of its state a call changes the flag for inexact results alone. */
+static int has_bits(uint16_t shared, uint16_t in_either, uint64_t want) {
+    const uint16_t list[] = {0, 1, shared, in_either};
+    uint64_t bits = 0;
+    double value = 0.0;
+    unsigned before = _mm_getcsr();
+    uint64_t told = sazamkhri_cell(2, list, 4, 1, 0, 1, &value);
+    unsigned changed = _mm_getcsr() ^ before;
+    memcpy(&bits, &value, sizeof bits);
+    return told == SAZAMKHRI_VALUE && bits == want && (changed & ~(unsigned)_MM_EXCEPT_INEXACT) == 0;
+}
+
+/* One third and four fifths, the last digit of their bits, in one way to round. */
+static void rounded(const char *name, unsigned mode, unsigned third, unsigned fifths) {
+    unsigned before = _mm_getcsr();
+    _mm_setcsr((before & ~(unsigned)(_MM_ROUND_MASK | _MM_EXCEPT_MASK)) | mode);
+    int ok = has_bits(1, 3, UINT64_C(0x3FD5555555555550) + third);
+    ok = ok && has_bits(4, 5, UINT64_C(0x3FE9999999999990) + fifths) && has_bits(7, 7, ONE);
+    _mm_setcsr(before);
+    say(name, third, ok);
+}
+
+static void rounding(void) {
+    rounded("rounded to nearest, as a program begins", _MM_ROUND_NEAREST, 0x5, 0xA);
+    rounded("rounded up", _MM_ROUND_UP, 0x6, 0xA);
+    rounded("rounded down", _MM_ROUND_DOWN, 0x5, 0x9);
+    rounded("rounded towards zero", _MM_ROUND_TOWARD_ZERO, 0x5, 0x9);
+}
+
 static void version(void) {
     char text[32];
     snprintf(text, sizeof text, "%d.%d.%d", SAZAMKHRI_VERSION_MAJOR, SAZAMKHRI_VERSION_MINOR, SAZAMKHRI_VERSION_PATCH);
     say("version " SAZAMKHRI_VERSION, SAZAMKHRI_VERSION_MAJOR, strcmp(text, SAZAMKHRI_VERSION) == 0);
 }
 
-static void *listings(void *unused) {
-    (void)unused;
-    int *wrong = calloc(1, sizeof *wrong);
+/* What a thread does: its number says with which sheet, or from which cell on, so that not all do the same at once. */
+struct task {
+    unsigned number;
+    int wrong;
+};
+
+static void *listings(void *argument) {
+    struct task *t = argument;
+    const struct sheet *s = &sheets[t->number % 2];
     uint8_t text[SAZAMKHRI_LISTING_LIMIT];
-    for (int i = 0; wrong != NULL && i < 200; i++) {
-        uint64_t got = sazamkhri_listing((const uint8_t *)three, strlen(three), text, sizeof text);
-        *wrong |= got != strlen(listing) || memcmp(text, listing, strlen(listing)) != 0;
+    for (int i = 0; i < 200; i++) {
+        uint64_t got = sazamkhri_listing((const uint8_t *)s->bytes, s->length, text, sizeof text);
+        t->wrong |= got != s->value || !holds(text, sizeof text, s->listing);
     }
-    return wrong;
+    return NULL;
 }
 
-/* Four threads share one sheet. */
-static void threads(void) {
+static void *shared_cells(void *argument) {
+    struct task *t = argument;
+    for (unsigned i = t->number; i < 200 * CELLS; i++) {
+        const struct cell *c = &cells[i % CELLS];
+        uint64_t bits = 0;
+        double value = -1.0;
+        uint64_t told = sazamkhri_cell(c->contexts, c->list, c->list_len, c->entries, c->first, c->second, &value);
+        memcpy(&bits, &value, sizeof bits);
+        t->wrong |= told != c->told || bits != c->bits;
+    }
+    return NULL;
+}
+
+static void threads(const char *name, void *(*work)(void *)) {
     pthread_t thread[4];
+    struct task tasks[4];
     int wrong = 0;
-    for (int i = 0; i < 4; i++) {
-        need(pthread_create(&thread[i], NULL, listings, NULL) == 0, "a thread");
+    for (unsigned i = 0; i < 4; i++) {
+        tasks[i] = (struct task){i, 0};
+        need(pthread_create(&thread[i], NULL, work, &tasks[i]) == 0, "a thread");
     }
-    for (int i = 0; i < 4; i++) {
-        void *told = NULL;
-        pthread_join(thread[i], &told);
-        wrong |= told == NULL || *(int *)told;
-        free(told);
+    for (unsigned i = 0; i < 4; i++) {
+        need(pthread_join(thread[i], NULL) == 0, "a thread's end");
+        wrong |= tasks[i].wrong;
     }
-    say("four threads, one sheet", 4, !wrong);
+    say(name, 4, !wrong);
 }
 
 /* The sanitizers use the stack in their own way: there it is not measured. */
@@ -316,20 +528,26 @@ static void threads(void) {
 #endif
 
 #if !defined(SANITIZED)
-/* What the header says was measured, to a kilobyte. The guard is so large that no call steps over it. */
+/*
+ * What the header says was measured: of a listing to a kilobyte, of a cell at most. The guard is so large that no call
+ * steps over it. The thread library is told of a part of it as if it were stack, since it takes none that is so small.
+ */
 enum {
     TEXT = SAZAMKHRI_LISTING_LIMIT,
     MEASURED = 30 * 1024,
     NEARLY = MEASURED - 1024,
+    CELL_MEASURED = 128,
     AMPLE = 256 * 1024,
     GUARD = 1024 * 1024,
+    AS_IF = 64 * 1024,
     BLANK = 0x5A,
     ALIGNED = 64
 };
 
-/* A stack with a guard below it, and the call that a thread makes on it. */
+/* A stack with a guard below it, and the call that a thread makes on it: for a sheet or for a cell. */
 struct run {
-    const struct sheet *sheet;
+    void *(*call)(void *);
+    const void *what;
     uint8_t *low;
     size_t size;
     uint8_t *frame;
@@ -340,11 +558,20 @@ struct run {
 static uint8_t *text_of_run;
 
 /* Where the caller's frame stands is noted: below it is what the call uses, above it what the thread does. */
-static void *call_once(void *argument) {
+static void *call_listing(void *argument) {
     struct run *r = argument;
+    const struct sheet *s = r->what;
     r->frame = __builtin_frame_address(0);
-    r->ok = r->sheet->value ==
-            sazamkhri_listing((const uint8_t *)r->sheet->bytes, r->sheet->length, text_of_run, TEXT);
+    r->ok = s->value == sazamkhri_listing((const uint8_t *)s->bytes, s->length, text_of_run, TEXT);
+    return NULL;
+}
+
+static void *call_cell(void *argument) {
+    static double value;
+    struct run *r = argument;
+    const struct cell *c = r->what;
+    r->frame = __builtin_frame_address(0);
+    r->ok = c->told == sazamkhri_cell(c->contexts, c->list, c->list_len, c->entries, c->first, c->second, &value);
     return NULL;
 }
 
@@ -366,8 +593,8 @@ static void on_stack(struct run *r) {
     r->low = all + GUARD;
     blank(r->low, r->size);
     need(pthread_attr_init(&attributes) == 0, "a thread's attributes");
-    need(pthread_attr_setstack(&attributes, r->low, r->size) == 0, "a stack of its own");
-    need(pthread_create(&thread, &attributes, call_once, r) == 0, "a thread");
+    need(pthread_attr_setstack(&attributes, r->low - AS_IF, r->size + AS_IF) == 0, "a stack of its own");
+    need(pthread_create(&thread, &attributes, r->call, r) == 0, "a thread");
     pthread_join(thread, NULL);
     pthread_attr_destroy(&attributes);
 }
@@ -376,24 +603,29 @@ static void drop_stack(struct run *r) {
     munmap(r->low - GUARD, GUARD + (r->size + PAGE - 1) / PAGE * PAGE);
 }
 
-/* How many bytes below the caller's frame a call touches, and how many of the stack stand above the frame. */
-static size_t touched(const struct sheet *sheet, size_t *above) {
-    struct run r = {sheet, NULL, AMPLE, NULL, 0};
+/* What a call uses of the stack: the bytes that it touches below its caller's frame. Those above are the thread's. */
+struct use {
+    void *(*call)(void *);
+    const void *what;
+    size_t bytes, above;
+    int ok;
+};
+
+static struct use use_of(void *(*call)(void *), const void *what) {
+    struct run r = {call, what, NULL, AMPLE, NULL, 0};
     on_stack(&r);
     const uint8_t *lowest = r.low;
     while (lowest < r.frame && *lowest == BLANK) {
         lowest++;
     }
-    size_t bytes = (size_t)(r.frame - lowest);
-    *above = (size_t)(r.low + r.size - r.frame);
-    say(sheet->name, bytes, r.ok && bytes <= SAZAMKHRI_STACK);
+    struct use u = {call, what, (size_t)(r.frame - lowest), (size_t)(r.low + r.size - r.frame), r.ok};
     drop_stack(&r);
-    return bytes;
+    return u;
 }
 
 /* Makes the call where at most `room` bytes are left below the caller's frame, and at most 64 fewer. */
-static int with_room(const struct sheet *sheet, size_t above, size_t room) {
-    struct run r = {sheet, NULL, above + room, NULL, 0};
+static int with_room(const struct use *u, size_t room) {
+    struct run r = {u->call, u->what, NULL, u->above + room, NULL, 0};
     on_stack(&r);
     size_t left = (size_t)(r.frame - r.low);
     int ok = r.ok && left <= room && left + ALIGNED > room;
@@ -402,38 +634,53 @@ static int with_room(const struct sheet *sheet, size_t above, size_t room) {
 }
 
 /* Whether the system ends a process that makes the call with so little room. */
-static int ends_with_room(const struct sheet *sheet, size_t above, size_t room) {
+static int ends_with_room(const struct use *u, size_t room) {
     int status = 0;
     pid_t child = fork();
     need(child >= 0, "a process");
     if (child == 0) {
         struct rlimit none = {0, 0};
         setrlimit(RLIMIT_CORE, &none);
-        with_room(sheet, above, room);
+        with_room(u, room);
         _exit(0);
     }
     need(waitpid(child, &status, 0) == child, "a process's end");
     return WIFSIGNALED(status) && WTERMSIG(status) == SIGSEGV;
 }
 
+static void listing_stack(void) {
+    struct use first = use_of(call_listing, &sheets[0]), most = {NULL, NULL, 0, 0, 0};
+    for (size_t i = 0; i < many; i++) {
+        struct use u = use_of(call_listing, &sheets[i]);
+        say(sheets[i].name, u.bytes, u.ok && u.bytes <= SAZAMKHRI_STACK);
+        most = u.bytes > most.bytes ? u : most;
+    }
+    say("the first call, which looks memset up", first.bytes, first.ok && first.bytes <= SAZAMKHRI_STACK);
+    say("the most of all calls behind it", most.bytes, most.bytes > NEARLY && most.bytes <= MEASURED);
+    printf("%-52s %7zu\n", "what the thread itself has above the call", most.above);
+    say("a call with the stack that the header asks for", SAZAMKHRI_STACK, with_room(&most, SAZAMKHRI_STACK));
+    say("a call with what was measured", most.bytes, with_room(&most, most.bytes + ALIGNED));
+    say("a call with less is ended", most.bytes - ALIGNED, ends_with_room(&most, most.bytes - ALIGNED));
+}
+
+/* A cell uses too little to be tried with less. */
+static void cell_stack(void) {
+    struct use most = {NULL, NULL, 0, 0, 0};
+    for (const struct cell *c = cells; c < cells + CELLS; c++) {
+        struct use u = use_of(call_cell, c);
+        most = u.bytes > most.bytes ? u : most;
+    }
+    say("the most of all cells", most.bytes, most.bytes <= SAZAMKHRI_CELL_STACK && most.bytes <= CELL_MEASURED);
+    say("a cell with the stack that the header asks for", SAZAMKHRI_CELL_STACK, with_room(&most, SAZAMKHRI_CELL_STACK));
+}
+
 static void stack(void) {
-    size_t above = 0, most = 0;
-    const struct sheet *neediest = &sheets[0];
     struct fenced text = fence(TEXT, 1);
     text_of_run = text.bytes;
-    printf("bytes of stack that a call uses, at most %d:\n", SAZAMKHRI_STACK);
-    size_t first = touched(neediest, &above);
-    for (size_t i = 0; i < many; i++) {
-        size_t bytes = touched(&sheets[i], &above);
-        neediest = bytes > most ? &sheets[i] : neediest;
-        most = bytes > most ? bytes : most;
-    }
-    say("the first call, which looks memset up", first, first <= SAZAMKHRI_STACK);
-    say("the most of all calls behind it", most, most > NEARLY && most <= MEASURED);
-    printf("%-52s %7zu\n", "what the thread itself has above the call", above);
-    say("a call with the stack that the header asks for", SAZAMKHRI_STACK, with_room(neediest, above, SAZAMKHRI_STACK));
-    say("a call with what was measured", most, with_room(neediest, above, most + ALIGNED));
-    say("a call with less is ended", most - ALIGNED, ends_with_room(neediest, above, most - ALIGNED));
+    printf("bytes of stack that a listing uses, at most %d:\n", SAZAMKHRI_STACK);
+    listing_stack();
+    printf("bytes of stack that a cell uses, at most %d:\n", SAZAMKHRI_CELL_STACK);
+    cell_stack();
     unfence(text);
 }
 #else
@@ -446,6 +693,11 @@ int main(void) {
     stack();
     version();
     borders();
-    threads();
+    cell_borders();
+    long_list();
+    heat_maps();
+    rounding();
+    threads("four threads, two sheets", listings);
+    threads("four threads, the same lists", shared_cells);
     return failed;
 }

@@ -63,41 +63,55 @@ plant() {
     noticed "$@"
 }
 
-# library MISTAKE CODE FLAGS WORDS CHECK..: another library, which makes the true call and one mistake more.
+# library CALL MISTAKE CODE FLAGS WORDS CHECK..: another library. For one of the calls, `listing` or `cell`, it has the
+# code, which makes the true call and one mistake more.
 library() {
-    local mistake=$1 code=$2 flags=$3 words=$4
-    shift 4
+    local call=$1 mistake=$2 code=$3 flags=$4 words=$5
+    shift 5
     fresh
     (
         cd "$copy/target/staticlib"
         ar x libhost.a host.o
-        objcopy --redefine-sym sazamkhri_listing=true_listing --localize-hidden host.o
+        objcopy --redefine-sym "sazamkhri_$call=true_$call" --localize-hidden host.o
         printf '%s\n' '#include "sazamkhri.h"' \
-            '__attribute__((visibility("hidden")))' \
-            'uint64_t true_listing(const uint8_t *, size_t, uint8_t *, size_t);' "$code" > wrong.c
+            '#define TRUE __attribute__((visibility("hidden"))) uint64_t' \
+            'TRUE true_listing(const uint8_t *, size_t, uint8_t *, size_t);' \
+            'TRUE true_cell(uint16_t, const uint16_t *, size_t, size_t, uint16_t, uint16_t, double *);' \
+            "$code" > wrong.c
         # shellcheck disable=SC2086
         $CC -O1 -fPIC -fno-asynchronous-unwind-tables -fcf-protection=none $flags -I"$copy/host" -c wrong.c -o wrong.o
         ld -r wrong.o host.o -o both.o 2> warnings
-        objcopy --localize-symbol true_listing both.o
+        objcopy --localize-symbol "true_$call" both.o
         rm -f libhost.a
         ar rcs libhost.a both.o
     )
     noticed "$mistake" "$words" "$@"
 }
 
-# with STATEMENTS: the code of a call that does the statements behind the true one.
+# with STATEMENTS: the code of a listing that does the statements behind the true one.
 with() {
     printf '%s\n' \
         "uint64_t sazamkhri_listing(const uint8_t *sheet, size_t sheet_len, uint8_t *text, size_t text_len) {" \
         "uint64_t value = true_listing(sheet, sheet_len, text, text_len);" "$1" "return value; }"
 }
 
+# cell_with STATEMENTS: the code of a cell that does the statements behind the true one. `before` is what stood in
+# *value. `again` is the true call once more, for some entries from one of the list on, and for two contexts.
+cell_with() {
+    printf '%s\n' \
+        "#define again(from, many, a, b) true_cell(contexts, list + 4 * (from), 4 * (many), many, a, b, value)" \
+        "uint64_t sazamkhri_cell(uint16_t contexts, const uint16_t *list, size_t list_len, size_t entries," \
+        "uint16_t first, uint16_t second, double *value) { double before = *value;" \
+        "uint64_t told = true_cell(contexts, list, list_len, entries, first, second, value);" "$1" "return told; }"
+}
+
 # Where the mistakes are, and which check they are for.
 in_list_sheet() { plant host/list_sheet.c "$@" programs; }
 in_check() { plant host/check.c "$@" calls; }
 in_header() { plant host/sazamkhri.h "$@" calls; }
-in_call() { library "$1" "$(with "$2")" "" "$3" calls; }
-in_archive() { library "$1" "$(with "$2")${5-}" "$3" "$4" archives; }
+in_call() { library listing "$1" "$(with "$2")" "" "$3" calls; }
+in_cell() { library cell "$1" "$(cell_with "$2")" "" "$3" calls; }
+in_archive() { library listing "$1" "$(with "$2")${5-}" "$3" "$4" archives; }
 in_readme() { plant README.md "$1" "README: $2" "$3" installs c99; }
 
 list_sheet_mistakes() {
@@ -128,11 +142,25 @@ check_mistakes() {
     in_check 's/met > 2048/met > 2000/' "a smaller trail expected" "64 contexts that all meet.*WRONG"
     in_check 's/MEASURED = 30/MEASURED = 29/' "less stack said to be measured" "the most of all calls.*WRONG"
     in_check 's/MEASURED = 30/MEASURED = 31/' "more stack said to be measured" "the most of all calls.*WRONG"
-    in_check 's/neediest, above, most - ALIGNED/neediest, above, most + ALIGNED/' \
+    in_check 's/ends_with_room\(&most, most.bytes - ALIGNED/ends_with_room(\&most, most.bytes + ALIGNED/' \
         "a guard that is not reached" "with less is ended .*WRONG"
-    in_check 's/neediest, above, SAZAMKHRI_STACK/neediest, above, 24 * 1024/' "too small a thread" "Segmentation fault"
-    in_header 's/(STACK) 49152/\1 30000/' "too little stack promised" "16 codes.* 30[0-9]* WRONG"
+    in_check 's/with_room\(&most, SAZAMKHRI_STACK/with_room(\&most, 24 * 1024/' \
+        "too small a thread" "Segmentation fault"
+    in_check 's/with_room\(&most, SAZAMKHRI_CELL_STACK/with_room(\&most, 0/' \
+        "too small a thread for a cell" "Segmentation fault"
+    in_check 's/0x3FEFAEE41E6A7498/0x3FEFAEE41E6A7499/' "another last bit expected" "100 codes shared of 101 .*WRONG"
+    in_check 's/CELL_MEASURED = [0-9]+/CELL_MEASURED = 16/' "less stack for a cell said to be measured" \
+        "the most of all cells .*WRONG"
+    in_check 's/_MM_ROUND_UP, 0x6/_MM_ROUND_UP, 0x5/' "another way to round expected" "rounded up .*WRONG"
+    in_header 's/(SAZAMKHRI_STACK) 49152/\1 30000/' "too little stack promised" "16 codes.* 30[0-9]* WRONG"
+    in_header 's/(CELL_STACK) 1024/\1 16/' "too little stack for a cell promised" "the most of all cells .*WRONG"
     in_header 's/(NOT_RISING =) 5/\1 15/' "a wrong number in the header" "a code twice .*WRONG"
+    in_header 's/(NO_SUCH_CONTEXT =) 13/\1 14/' "a wrong number for a cell" "there are no contexts .*WRONG"
+    in_header 's/(LIST_BROKEN =) 17/\1 16/' "a wrong number for a list" "an entry too many .*WRONG"
+    in_header 's/(BLANK UINT64_C.)0/\12/' "another blank cell" "a context against itself .*WRONG"
+    in_header 's/(VALUE UINT64_C.)1/\12/' "another cell with a value" "a listed pair .*WRONG"
+    in_header 's/(ENTRY_WORDS) 4/\1 5/' "a longer entry in the header" "64 pairs listed .*WRONG"
+    in_header 's/(PAIRS_LIMIT) 64/\1 65/' "more pairs in the header" "64 pairs listed .*WRONG"
     in_header 's/(PATCH) 0/\1 1/' "two versions" "version .*WRONG"
     in_header 's/(SHEET_LIMIT) 24576/\1 24577/' "another limit in the header" "a sheet of 24,576 bytes: not to be had"
 }
@@ -146,6 +174,76 @@ call_mistakes() {
     in_call "no zero behind a listing" 'if (text_len) text[text_len - 1] = 1;' "no contexts .*WRONG"
     in_call "another refusal" 'value += value == 1000008;' "65 contexts that all meet .*WRONG"
     in_call "60,000 bytes of stack" 'volatile char much[60000]; much[0] = 0; much[59999] = 0;' " 9[0-9]{4} WRONG"
+    library listing "a length that threads share" \
+        "$(with 'static volatile uint64_t last; last = value; sched_yield(); value = last;')" "-include sched.h" \
+        "four threads, two sheets .*WRONG" calls
+}
+
+# taken CONDITION NAME: a list of one entry that is refused by right, and taken if the condition holds.
+taken() {
+    in_cell "taken: $2" "if (told == 1000017 && entries == 1 && list_len == 4 && $1) told = 0;" "$2 .*WRONG"
+}
+
+# What a careless builder could do in a cell. First around it: beside its buffers, and with what calls share.
+cell_mistakes() {
+    in_cell "a double written behind the value" 'value[1] = 0.0;' "Segmentation fault"
+    in_cell "a double written before the value" 'value[-1] = 0.0;' "Segmentation fault"
+    in_cell "a word read behind the list" 'told += ((volatile const uint16_t *)list)[list_len] & 0;' \
+        "Segmentation fault"
+    in_cell "an entry too many read" 'if (told < 2) told += ((volatile const uint16_t *)list)[4 * entries] & 0;' \
+        "Segmentation fault"
+    in_cell "a word of the list written" 'if (list_len) ((volatile uint16_t *)list)[0] = list[0];' "Segmentation fault"
+    library cell "a value that threads share" \
+        "$(cell_with 'static volatile double last; last = *value; sched_yield(); *value = last;')" "-include sched.h" \
+        "four threads, the same lists .*WRONG" calls
+    in_cell "the way to round left changed" '__builtin_ia32_ldmxcsr(0x7F80);' "rounded to nearest.* WRONG"
+    in_cell "2,000 bytes of stack" 'volatile char much[2000]; much[0] = 0; much[1999] = 0;' \
+        "the most of all cells .*WRONG"
+}
+
+# In its answer.
+cell_answer_mistakes() {
+    in_cell "the value kept for a refusal" 'if (told > 1) *value = before;' "there are no contexts .*WRONG"
+    in_cell "the value kept for a blank cell" 'if (told == 0) *value = before;' "a context against itself .*WRONG"
+    in_cell "a blank cell with -0.0" 'if (told == 0) *value = -0.0;' "a context against itself .*WRONG"
+    in_cell "a value rounded twice" '*value = (float)*value;' "1 code shared of 3 .*WRONG"
+    in_cell "the value the other way up" 'if (told == 1) *value = 1 / *value;' "a listed pair .*WRONG"
+    in_cell "one order alone" 'if (told == 1 && first > second) { told = 0; *value = 0.0; }' "a listed pair .*WRONG"
+    in_cell "the later of two entries" \
+        'for (size_t i = told == 1 ? entries : 0; i-- && again(i, 1, first, second) != 1;);' \
+        "the earlier of two entries .*WRONG"
+    in_cell "a context alike to itself" 'if (told == 0 && first == second) { told = 1; *value = 1.0; }' \
+        "a context against itself .*WRONG"
+    in_cell "256 contexts at most" 'if (contexts > 256) { told = 1000017; *value = 0.0; }' "257 contexts.* WRONG"
+    in_cell "64 entries at most" 'if (entries > 64) told = told == 1 ? 0 : told;' "the last of 65,534 entries .*WRONG"
+}
+
+# In its checks, and in their order.
+cell_check_mistakes() {
+    in_cell "the count before the contexts" 'if (entries > list_len / 4) told = 1000017;' \
+        "no such context, and too many entries .*WRONG"
+    in_cell "the entries before the contexts" \
+        'if (told == 1000013 && contexts && entries <= list_len / 4 && again(0, entries, 0, 0) > 1) told = 1000017;' \
+        "no such context, and a wrong entry .*WRONG"
+    in_cell "a count that overflows" \
+        'if (told == 1000017 && entries > list_len / 4 && 4 * entries <= list_len) told = 0;' \
+        "words are 0 in 64 bits .*WRONG"
+    in_cell "a part of an entry counted" \
+        'if (told == 1000017 && list_len % 4 && entries == list_len / 4 + 1) told = 0;' \
+        "an entry too many by a word .*WRONG"
+    in_cell "no look behind the pair" \
+        'for (size_t i = 1; told == 1000017 && i < entries && entries <= list_len / 4; i++)
+         told = again(0, i, first, second) == 1 ? 1 : told;' "a wrong entry behind the pair .*WRONG"
+    in_cell "no look at the entries for a context against itself" \
+        'if (first == second && first < contexts && entries <= list_len / 4) told = 0;' \
+        "a wrong entry, a context against itself .*WRONG"
+    in_cell "a wrong entry far behind" 'if (told == 1000017 && entries == 65534) told = 1;' \
+        "entries, if it is wrong .*WRONG"
+    taken 'list[0] == list[1]' "an entry of one context"
+    taken 'list[0] > list[1]' "an entry whose contexts fall"
+    taken 'list[1] >= contexts' "an entry with no such context"
+    taken 'list[2] == 0' "an entry with nothing shared"
+    taken 'list[2] > list[3]' "an entry with more shared than in either"
 }
 
 archive_mistakes() {
@@ -157,10 +255,15 @@ archive_mistakes() {
     in_archive "code for one place" \
         'static const char at[] = "at"; text += value == 3 ? (uintptr_t)at : 0; value += text == 0;' "-fno-pic" \
         "linked as pie|linked as a shared object"
+    library cell "a call too few" "" "" "symbols it gives" archives
+    library cell "another cell in a shared object" "$(cell_with '*value += 1;')" "" "another cell" archives
+    library cell "division for newer processors" "$(cell_with 'if (told == 7) *value /= before;')" -mavx \
+        "newer instructions: 'vdivsd" archives
     in_archive "a table for debuggers" "" "-fasynchronous-unwind-tables" "tables and marks: '.eh_frame'"
     in_archive "a stack to execute" "" "-Wa,--execstack" "the note on the stack"
 }
 
+# shellcheck disable=SC2016
 readme_mistakes() {
     in_readme 's/^make install PREFIX=.*/make install/' "no PREFIX" "make install: .*not tried"
     in_readme 's/-lsazamkhri/-lsazamkri/' "another library" "README: 0 blocks with -lsazamkhri"
@@ -170,7 +273,12 @@ readme_mistakes() {
         "an argument too few" "plain flags, C99: "
     in_readme 's/fwrite\(text, 1, told/fwrite(text, 1, told - 1/' "a byte less" "C99: another listing"
     in_readme 's/^uint64_t sazam/uint32_t sazam/' "another type" "README: 0 blocks"
-    in_readme 's/size_t text_len\);/int text_len);/' "another argument" "declaration: "
+    in_readme 's/size_t text_len\);/int text_len);/' "another argument" "declaration of sazamkhri_listing: "
+    in_readme 's/uint16_t second, double/size_t second, double/' "another context" "declaration of sazamkhri_cell: "
+    in_readme 's/ENTRY_WORDS, 1, 1, 0, &value/ENTRY_WORDS, 1, 1, \&value/' "an argument too few for a cell" \
+        "plain flags, C99: .*my_cell"
+    in_readme 's/\{0, 1, 4, 5\};/{0, 1, 3, 5};/' "another entry" "'0.6' in the cell, not '0.8'"
+    in_readme 's/It prints `0.8`/It prints `0.7`/' "another cell told" "'0.8' in the cell, not '0.7'"
 }
 
 # What these install goes into the temporary folder of the check, whatever they do wrong.
@@ -195,6 +303,9 @@ as_it_is installs
 list_sheet_mistakes
 check_mistakes
 call_mistakes
+cell_mistakes
+cell_answer_mistakes
+cell_check_mistakes
 archive_mistakes
 readme_mistakes
 install_mistakes

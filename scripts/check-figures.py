@@ -69,6 +69,15 @@ def limits(root):
         "crates/sazamkhri": number(Text(root, "crates/sazamkhri/src/main.rt").find(r"INPUT: usize = (\d+)")[0]) - 1,
         "scripts/refusals.py": number(front.find(r"^LIMIT = (\d+)")[0]),
     })
+    wrong += differ("pairs of a listing", {
+        "README.md": number(readme.find(r"^\| pairs listed \(k\) \| 1 to (\d+) \|")[0]),
+        "host/sazamkhri.h": number(header.find(r"#define SAZAMKHRI_PAIRS_LIMIT (\d+)$")[0]),
+        "crates/tables": number(Text(root, "crates/tables/src/lib.rt").find(r"if k > (\d+)")[0]),
+    })
+    wrong += differ("words of an entry", {
+        "host/sazamkhri.h": number(header.find(r"#define SAZAMKHRI_ENTRY_WORDS (\d+)$")[0]),
+        "crates/entries": number(Text(root, "crates/entries/src/lib.rt").find(r"const WIDTH: usize = (\d+)")[0]),
+    })
     wrong += differ("pairs on the trail", {
         "README.md": number(readme.find(r"^\| trail of the program and the host \| ([\d,]+) pairs")[0]),
         "crates/listing": number(listing.find(r"const TRAIL: usize = 2 \* (\d+)")[0]),

@@ -36,6 +36,8 @@ REFUSALS = {
     11: Refusal("byte", "There is no room for the sheet.",
                 "Split the site: at most 256 contexts, 4,096 codes and 24,576 bytes."),
     12: Refusal("place", "The listing does not fit its buffer" + BROKEN, REPORT),
+    13: Refusal("place", "A context number is not below the number of contexts" + BROKEN, REPORT),
+    17: Refusal("place", "The list has fewer entries than it should, or one that no list has" + BROKEN, REPORT),
 }
 UNKNOWN = Refusal("place", "This number is not known here: the program is newer than this script, or broken.", REPORT)
 

@@ -538,12 +538,12 @@ class StandIns(unittest.TestCase):
         self.trouble(self.listed("exit 5", b"x" * 24577), b"", "ended with status 5")
 
     def test_numbers_that_no_sheet_causes(self):
-        for number in (2, 3, 6, 7, 12):
+        for number in (2, 3, 6, 7, 12, 13, 17):
             run = self.listed(f"echo refused={number} 7")
             self.assertEqual((run.returncode, run.stdout), (1, f"refused={number} 7\n".encode()))
             self.assertTrue(run.stderr.startswith(f"standard input: refused, number {number} at place 7\n".encode()))
             self.assertIn(b"the program is broken", run.stderr)
-        for number in (0, 13, 14, 999):
+        for number in (0, 14, 16, 18, 999):
             run = self.listed(f"echo refused={number} 7")
             self.assertEqual(run.returncode, 1)
             self.assertTrue(run.stderr.startswith(f"standard input: refused, number {number} at place 7\n".encode()))
