@@ -94,6 +94,7 @@ with() {
 
 # Where the mistakes are, and which check they are for.
 in_list_sheet() { plant host/list_sheet.c "$@" programs; }
+in_sheet_file() { plant host/sheet_file.h "$@" programs; }
 in_check() { plant host/check.c "$@" calls; }
 in_header() { plant host/sazamkhri.h "$@" calls; }
 in_call() { library "$1" "$(with "$2")" "" "$3" calls; }
@@ -101,24 +102,24 @@ in_archive() { library "$1" "$(with "$2")${5-}" "$3" "$4" archives; }
 in_readme() { plant README.md "$1" "README: $2" "$3" installs c99; }
 
 list_sheet_mistakes() {
-    in_list_sheet 's/return REFUSED;/return LISTED;/' "status 0 for a refusal" "status 0, not 1"
-    in_list_sheet 's/return LISTED;/return REFUSED;/' "status 1 for a listing" "status 1, not 0"
-    in_list_sheet 's/= 2 \}/= 1 }/' "status 1 for a fault" "missing file: status 1, not 2"
-    in_list_sheet 's/#include <errno.h>/&\n#include <stdlib.h>/; s/return LISTED;/abort();/' \
+    in_sheet_file 's/return REFUSED;/return DONE;/' "status 0 for a refusal" "status 0, not 1"
+    in_list_sheet 's/return DONE;/return REFUSED;/' "status 1 for a listing" "status 1, not 0"
+    in_sheet_file 's/= 2 \}/= 1 }/' "status 1 for a fault" "missing file: status 1, not 2"
+    in_list_sheet 's/#include "sheet_file.h"/&\n#include <stdlib.h>/; s/return DONE;/abort();/' \
         "prints and aborts" "status 134, not 0"
     in_list_sheet 's/\|\| fflush/|| putchar(0) != 0 &/' "a byte more" "another listing"
     in_list_sheet 's/\(size_t\)value,/(size_t)value - 1,/; s/\(size_t\)value \|\|/(size_t)value - 1 ||/' \
         "a byte less" "another listing"
-    in_list_sheet 's/fprintf\(stderr, "refused/fprintf(stdout, "refused/' "words on standard output" "prints on out"
-    in_list_sheet 's/return LISTED;/{ fputs("listed", stderr); & }/' "words beside a listing" "prints on err"
-    in_list_sheet 's/fprintf\(stderr, "refused/fprintf(fopen("\/dev\/null", "w"), "refused/' \
+    in_sheet_file 's/fprintf\(stderr, "refused/fprintf(stdout, "refused/' "words on standard output" "prints on out"
+    in_list_sheet 's/return DONE;/{ fputs("listed", stderr); & }/' "words beside a listing" "prints on err"
+    in_sheet_file 's/fprintf\(stderr, "refused/fprintf(fopen("\/dev\/null", "w"), "refused/' \
         "no words" "not the words of refusal"
-    in_list_sheet 's/(CODE_)TOO_LARGE/\1X/; s/CODE_NOT_RISING/CODE_TOO_LARGE/; s/CODE_X/CODE_NOT_RISING/' \
+    in_sheet_file 's/(CODE_)TOO_LARGE/\1X/; s/CODE_NOT_RISING/CODE_TOO_LARGE/; s/CODE_X/CODE_NOT_RISING/' \
         "the words of another refusal" "not the words of refusal 4"
     in_list_sheet 's/ \|\| fflush\(stdout\) != 0//' "no look at the full disk" "full disk: status 0, not 2"
-    in_list_sheet 's/ferror\(from\)/0/' "no look at what was read" "a folder: status 1, not 2"
-    in_list_sheet 's/LIMIT \+ 1\]/LIMIT]/' "a long sheet cut off" "not the words of refusal 11"
-    in_list_sheet 's/argc > 2/argc > 3/' "two arguments taken" "two arguments: status 1, not 2"
+    in_sheet_file 's/ferror\(from\)/0/' "no look at what was read" "a folder: status 1, not 2"
+    in_sheet_file 's/LIMIT \+ 1\]/LIMIT]/' "a long sheet cut off" "not the words of refusal 11"
+    in_sheet_file 's/argc > 2/argc > 3/' "two arguments taken" "two arguments: status 1, not 2"
 }
 
 check_mistakes() {
