@@ -500,8 +500,9 @@ class StandIns(Case):
         return self.program({"listing": f"uint64_t other_listing({parameters}) {{{LISTING}\n}}"})
 
     def fault(self, done, words, name):
-        self.assertEqual((done.returncode, done.stdout), (2, b""), name)
-        self.assertRegex(done.stderr.decode(), rf"\Aheat_map: .*{words}.*\n\Z", name)
+        told = done.stderr.decode()
+        self.assertEqual((done.returncode, done.stdout), (2, b""), f"{name!r}: {told[:200]}")
+        self.assertRegex(told, rf"\Aheat_map: .*{words}.*\n\Z", name)
 
     def test_every_cell_is_asked_for_once(self):
         program = self.cell(NOTED)
