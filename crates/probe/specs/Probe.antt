@@ -1,8 +1,9 @@
 -- The calls on plain words: the four words of each answer, and every word that each call leaves.
-use mathlib.Core.Bool.{cond}
+use mathlib.Core.Bool.{cond, _||_}
 use mathlib.Core.List.{List, _∷_, _++_}
 use Prim.Native.Nat.{ℕ}
 use lib.Dec.{ltb}
+use lib.Ieee.{Float}
 use lib.ListN.{length, drop}
 use Rattle.site.specs.Tables.{siteOf}
 use Rattle.words.specs.Words.{padded}
@@ -13,6 +14,7 @@ use Rattle.search.specs.Outcome.{Outcome, answerNumber, answerValues}
 use Rattle.join.specs.Join.{joinOf}
 use Rattle.reader.specs.Answers.{sheetValues, readingAt, offsetsBy, codesBy}
 use Rattle.writer.specs.Writes.{writingNumber, writingValues, answerBy, textBy}
+use Rattle.heat.specs.Answers.{cellNumber, cellValues, cellValue, cellOf}
 
 -- ---- four words
 
@@ -81,3 +83,20 @@ probeWrite k offsets codes text old =
     let s = sheetText k (siteOf offsets codes) in
     let r = answerBy x s (length text) in
     cond (ltb (length old) 4) (afterWrite text old) (afterWrite (textBy x s text) (atFront (fourWords (writingNumber r) (writingValues r)) old))
+
+-- the words for the cell's value, and the answer
+pub record AfterCell : Type 0 where
+  pub value : List Float
+  pub answer : List ℕ
+
+-- the two of them
+abbrev pub afterCell : List Float → List ℕ → AfterCell
+afterCell value answer = record { value = value; answer = answer }
+
+-- what `probe_cell` leaves: the value at the front; nothing is done either where there is no word for it
+unfoldable pub probeCell : ℕ → List ℕ → ℕ → ℕ → ℕ → List Float → List ℕ → AfterCell
+probeCell contexts list entries first second value old =
+    let r = cellOf contexts list entries first second in
+    cond (ltb (length old) 4 || ltb (length value) 1)
+    (afterCell value old)
+    (afterCell (cellValue r ∷ drop 1 value) (atFront (fourWords (cellNumber r) (cellValues r)) old))

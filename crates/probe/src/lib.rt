@@ -1,17 +1,24 @@
-// The join, the reader and the writer on plain words, for tests and benchmarks from outside.
+// The join, the reader, the writer and the heat map on plain words, for tests and benchmarks from outside.
 // Each answer is four words at the front of `answer`; where that has fewer, nothing is done. The value returned is always 0.
 ghost use mathlib.Core.List.{[], _∷_};
 ghost use mathlib.Core.Path.{_≡_};
 ghost use Prim.Native.Nat.{_≤_};
-ghost use lib.ListN.{length};
+ghost use lib.ListN.{length, drop};
 ghost use Rattle.search.specs.Outcome.{answerNumber, answerValues};
 ghost use Rattle.reader.specs.Answers.{readingNumber, readingValues};
 ghost use Rattle.writer.specs.Writes.{writingNumber, writingValues};
+ghost use Rattle.heat.specs.Answers.{cellNumber, cellValues};
 ghost use Rattle.probe.specs.Probe.{fourWords, atFront, afterJoin, probeJoin, afterRead, probeRead, afterWrite, probeWrite};
+ghost use Rattle.probe.specs.Probe.{afterCell, probeCell};
+use heat::Cell;
+use heat::CellAnswer;
+use heat::cell_of;
+use heat::value_of;
 use join::Answer;
 use join::join;
 use reader::Reading;
 use reader::read;
+use site::Context;
 use writer::Writing;
 use writer::write;
 
@@ -61,6 +68,28 @@ fn put_write(answer: &mut [u64], r: Writing)
         Writing::Written(length) => put(answer, 0, length as u64, 0, 0),
         Writing::Refused { number, place } => put(answer, number as u64, place as u64, 0, 0),
     }
+}
+
+// The words of a cell.
+fn put_cell(answer: &mut [u64], r: CellAnswer)
+    requires { ⌜ 4 ≤ length (now answer) ⌝ }
+    ensures { λ _. ⌜ now (answer .exit) ≡ atFront (fourWords (cellNumber r) (cellValues r)) (now (answer .entry)) ⌝ }
+{
+    match r {
+        CellAnswer::Cell(c) => match c {
+            Cell::Blank => put(answer, 0, 0, 0, 0),
+            Cell::Value(_) => put(answer, 0, 1, 0, 0),
+        },
+        CellAnswer::Refused { number, place } => put(answer, number as u64, place as u64, 0, 0),
+    }
+}
+
+// Writes a value at the front.
+fn put_value(value: &mut [f64], v: f64)
+    requires { ⌜ 1 ≤ length (now value) ⌝ }
+    ensures { λ _. ⌜ now (value .exit) ≡ v ∷ drop 1 (now (value .entry)) ⌝ }
+{
+    value[0] = v;
 }
 
 // The join.
@@ -125,5 +154,32 @@ pub extern "C" fn probe_write(
     }
     let r = write(k, offsets, codes, text);
     put_write(answer, r);
+    0
+}
+
+// One cell of the heat map. Its value stands at the front of `value`; where that has no word, nothing is done either.
+#[no_mangle]
+pub extern "C" fn probe_cell(
+    contexts: u16,
+    list: &[u16],
+    entries: usize,
+    first: u16,
+    second: u16,
+    value: &mut [f64],
+    answer: &mut [u64],
+) -> u64
+    ensures { λ r. ⌜ r ≡ 0 ⌝ }
+    ensures { λ _. ⌜ afterCell (now (value .exit)) (now (answer .exit))
+        ≡ probeCell contexts (now (list .entry)) entries first second (now (value .entry)) (now (answer .entry)) ⌝ }
+{
+    if answer.len() < 4 {
+        return 0;
+    }
+    if value.len() < 1 {
+        return 0;
+    }
+    let r = cell_of(contexts, list, entries, Context(first), Context(second));
+    put_value(value, value_of(r));
+    put_cell(answer, r);
     0
 }
