@@ -4,12 +4,12 @@
  *     heat_map [SHEET]
  *
  * Reads the sheet from the file named, or from standard input, and prints a
- * picture (SVG, which any browser shows): a square with one cell for each two
- * contexts. A cell is coloured if its pair is listed, the darker the more alike
- * the two are; all others are blank. What goes wrong is told on standard error,
- * with nothing on standard output. The exit status is 0 for a picture, 1 for a
- * refused sheet, and 2 if the sheet cannot be read, the picture not written, or a
- * call answers what it never should.
+ * picture (SVG, which any browser shows): a square with a row and a column for
+ * each context. Where the two of a listed pair cross, the cell is coloured, the
+ * darker the more alike they are; all other cells are blank. What goes wrong is
+ * told on standard error, with nothing on standard output. The exit status is 0
+ * for a picture, 1 for a refused sheet, and 2 if the sheet cannot be read, the
+ * picture not written, or a call answers what it never should.
  *
  * The list comes from sazamkhri_listing, and every cell from sazamkhri_cell. The
  * same sheet always gives the same bytes.
@@ -194,9 +194,9 @@ static void paint_head(const struct map *map, const struct layout *plan) {
     printf("viewBox=\"0 0 %d %d\"\n", plan->width, plan->height);
     printf("     font-family=\"sans-serif\" font-size=\"12\" fill=\"#202020\">\n");
     printf("<title>Heat map of the listed pairs</title>\n");
-    printf("<desc>A square with one cell for each two contexts; row and column are their numbers. Contexts: %u. Pairs\n"
-           "listed: %u. The cell of a listed pair is coloured, the darker the more alike the two are. A cell is blank\n"
-           "for a context against itself and for a pair that is not listed.</desc>\n",
+    printf("<desc>A square with a row and a column for each context. Contexts: %u. Pairs listed: %u. Where the two of a\n"
+           "listed pair cross, the cell is coloured, the darker the more alike they are. All other cells are blank, and\n"
+           "so is the diagonal.</desc>\n",
            contexts, pairs);
     printf("<rect width=\"%d\" height=\"%d\" fill=\"#ffffff\"/>\n", plan->width, plan->height);
     printf("<text x=\"%d\" y=\"30\" font-size=\"17\" font-weight=\"bold\">Heat map of the listed pairs</text>\n", LEFT);
