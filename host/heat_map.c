@@ -194,9 +194,9 @@ static void paint_head(const struct map *map, const struct layout *plan) {
     printf("viewBox=\"0 0 %d %d\"\n", plan->width, plan->height);
     printf("     font-family=\"sans-serif\" font-size=\"12\" fill=\"#202020\">\n");
     printf("<title>Heat map of the listed pairs</title>\n");
-    printf("<desc>A square with a row and a column for each context. Contexts: %u. Pairs listed: %u. Where the two of a\n"
-           "listed pair cross, the cell is coloured, the darker the more alike they are. All other cells are blank, and\n"
-           "so is the diagonal.</desc>\n",
+    printf("<desc>A square with a row and a column for each context. Contexts: %u. Pairs listed: %u. Where the two of\n"
+           "a listed pair cross, the cell is coloured, the darker the more alike they are. All other cells are blank,\n"
+           "and so is the diagonal.</desc>\n",
            contexts, pairs);
     printf("<rect width=\"%d\" height=\"%d\" fill=\"#ffffff\"/>\n", plan->width, plan->height);
     printf("<text x=\"%d\" y=\"30\" font-size=\"17\" font-weight=\"bold\">Heat map of the listed pairs</text>\n", LEFT);
