@@ -3,7 +3,7 @@ SHELL := /bin/bash
 .DEFAULT_GOAL := help
 .SILENT:
 MAKEFLAGS += --no-print-directory
-.PHONY: help list program host install uninstall test trials bench clean
+.PHONY: help list heat program host install uninstall test trials bench clean
 
 # Whatever is typed is taken as it is, also with spaces, quotes and `$`.
 override SHEET := $(value SHEET)
@@ -27,14 +27,24 @@ list:
 	$(BUILD) program
 	scripts/list.py -- "$$SHEET"
 
+#: make heat SHEET=FILE       paint a sheet's heat map, as an SVG picture on standard output; or say why it is refused
+# The picture's program is compiled every time, without a word: that takes a moment, and whatever changed is seen.
+heat:
+	[ -n "$$SHEET" ] || { echo "Which sheet? For example: make heat SHEET=examples/cemetery.sheet" >&2; exit 2; }
+	[ "$$SHEET" = - ] || [ -e "$$SHEET" ] || exec scripts/list.py -- "$$SHEET"
+	$(BUILD) host
+	PROGRAMS=heat_map KINDS=plain host/build.sh > /dev/null
+	[ "$$SHEET" = - ] || set -- "$$SHEET"; target/host/heat_map "$$@" || { status=$$?; \
+	[ "$$status" -ne 1 ] || echo "'make list' with this sheet says where, and what to do." >&2; exit "$$status"; }
+
 #: make program               prove and build the program: target/bin/sazamkhri < FILE
 program:
 	$(BUILD) program
 
-#: make host                  prove and build the library for C and an example: target/host/list_sheet FILE
+#: make host                  prove and build the library for C and two examples: target/host/list_sheet and heat_map
 host:
 	$(BUILD) host
-	PROGRAMS=list_sheet KINDS=plain host/build.sh
+	PROGRAMS="list_sheet heat_map" KINDS=plain host/build.sh
 
 #: make install PREFIX=DIR    put header, library and pkg-config file for C there (also: make uninstall PREFIX=DIR)
 install:

@@ -1,7 +1,7 @@
 #!/usr/bin/env bash
 # Builds the C programs of host/ over libsazamkhri.a, plain and with the sanitizers, into target/host.
 # The library itself comes first: scripts/build.py host.
-# PROGRAMS and KINDS say which are built, if not all: list_sheet check, and plain san.
+# PROGRAMS and KINDS say which are built, if not all: list_sheet heat_map check, and plain san.
 set -eu -o pipefail
 cd "$(dirname "$0")/.."
 to=target/host
@@ -20,9 +20,10 @@ build() {
     $CC $flags $more -Ihost "host/$1.c" -Ltarget/lib -lsazamkhri -o "$to/$1$end"
 }
 
-for name in ${PROGRAMS:-list_sheet check}; do
+programs=${PROGRAMS:-list_sheet heat_map check}
+for name in $programs; do
     for kind in ${KINDS:-plain san}; do
         build "$name" "$kind"
     done
 done
-echo "built in $to: ${PROGRAMS:-list_sheet check} (${KINDS:-plain san})"
+echo "built in $to: $programs (${KINDS:-plain san})"

@@ -21,6 +21,7 @@ fresh() {
     mkdir -p "$copy/target/staticlib"
     cp -r host "$copy/host"
     cp README.md "$copy/README.md"
+    cp Makefile "$copy/Makefile"
     cp target/staticlib/libhost.a "$copy/target/staticlib/libhost.a"
     ln -s -f -n "$real/examples" "$copy/examples"
     ln -s -f -n "$real/crates" "$copy/crates"
@@ -107,6 +108,7 @@ cell_with() {
 
 # Where the mistakes are, and which check they are for.
 in_list_sheet() { plant host/list_sheet.c "$@" programs; }
+in_sheet_file() { plant host/sheet_file.h "$@" programs; }
 in_check() { plant host/check.c "$@" calls; }
 in_header() { plant host/sazamkhri.h "$@" calls; }
 in_call() { library listing "$1" "$(with "$2")" "" "$3" calls; }
@@ -115,24 +117,24 @@ in_archive() { library listing "$1" "$(with "$2")${5-}" "$3" "$4" archives; }
 in_readme() { plant README.md "$1" "README: $2" "$3" installs c99; }
 
 list_sheet_mistakes() {
-    in_list_sheet 's/return REFUSED;/return LISTED;/' "status 0 for a refusal" "status 0, not 1"
-    in_list_sheet 's/return LISTED;/return REFUSED;/' "status 1 for a listing" "status 1, not 0"
-    in_list_sheet 's/= 2 \}/= 1 }/' "status 1 for a fault" "missing file: status 1, not 2"
-    in_list_sheet 's/#include <errno.h>/&\n#include <stdlib.h>/; s/return LISTED;/abort();/' \
+    in_sheet_file 's/return REFUSED;/return DONE;/' "status 0 for a refusal" "status 0, not 1"
+    in_list_sheet 's/return DONE;/return REFUSED;/' "status 1 for a listing" "status 1, not 0"
+    in_sheet_file 's/= 2 \}/= 1 }/' "status 1 for a fault" "missing file: status 1, not 2"
+    in_list_sheet 's/#include "sheet_file.h"/&\n#include <stdlib.h>/; s/return DONE;/abort();/' \
         "prints and aborts" "status 134, not 0"
     in_list_sheet 's/\|\| fflush/|| putchar(0) != 0 &/' "a byte more" "another listing"
     in_list_sheet 's/\(size_t\)value,/(size_t)value - 1,/; s/\(size_t\)value \|\|/(size_t)value - 1 ||/' \
         "a byte less" "another listing"
-    in_list_sheet 's/fprintf\(stderr, "refused/fprintf(stdout, "refused/' "words on standard output" "prints on out"
-    in_list_sheet 's/return LISTED;/{ fputs("listed", stderr); & }/' "words beside a listing" "prints on err"
-    in_list_sheet 's/fprintf\(stderr, "refused/fprintf(fopen("\/dev\/null", "w"), "refused/' \
+    in_sheet_file 's/fprintf\(stderr, "refused/fprintf(stdout, "refused/' "words on standard output" "prints on out"
+    in_list_sheet 's/return DONE;/{ fputs("listed", stderr); & }/' "words beside a listing" "prints on err"
+    in_sheet_file 's/fprintf\(stderr, "refused/fprintf(fopen("\/dev\/null", "w"), "refused/' \
         "no words" "not the words of refusal"
-    in_list_sheet 's/(CODE_)TOO_LARGE/\1X/; s/CODE_NOT_RISING/CODE_TOO_LARGE/; s/CODE_X/CODE_NOT_RISING/' \
+    in_sheet_file 's/(CODE_)TOO_LARGE/\1X/; s/CODE_NOT_RISING/CODE_TOO_LARGE/; s/CODE_X/CODE_NOT_RISING/' \
         "the words of another refusal" "not the words of refusal 4"
     in_list_sheet 's/ \|\| fflush\(stdout\) != 0//' "no look at the full disk" "full disk: status 0, not 2"
-    in_list_sheet 's/ferror\(from\)/0/' "no look at what was read" "a folder: status 1, not 2"
-    in_list_sheet 's/LIMIT \+ 1\]/LIMIT]/' "a long sheet cut off" "not the words of refusal 11"
-    in_list_sheet 's/argc > 2/argc > 3/' "two arguments taken" "two arguments: status 1, not 2"
+    in_sheet_file 's/ferror\(from\)/0/' "no look at what was read" "a folder: status 1, not 2"
+    in_sheet_file 's/LIMIT \+ 1\]/LIMIT]/' "a long sheet cut off" "not the words of refusal 11"
+    in_sheet_file 's/argc > 2/argc > 3/' "two arguments taken" "two arguments: status 1, not 2"
 }
 
 check_mistakes() {
@@ -296,10 +298,107 @@ install_mistakes() {
     plant host/sazamkhri.pc.in 's/@VERSION@/0.9/' "another version" "version of pkg-config: 0.9" installs staged
 }
 
+# pictures TEST..: tries the heat map in the copy. There, nothing is to be proved: the library lies ready.
+pictures() {
+    mkdir -p "$copy/tests/scripts" "$copy/scripts"
+    cp tests/scripts/test_heat_map.py "$copy/tests/scripts/test_heat_map.py"
+    cp scripts/*.py "$copy/scripts/"
+    printf '#!/bin/sh\n' > "$copy/scripts/build.py"
+    PROGRAMS=heat_map "$copy/host/build.sh" && python3 "$copy/tests/scripts/test_heat_map.py" "$@"
+}
+
+# in_heat_map EDIT MISTAKE WORDS TEST..: one edit in the picture's program, for these tests.
+in_heat_map() { plant host/heat_map.c "$1" "$2" "$3" pictures "${@:4}"; }
+in_make_heat() { plant Makefile "$1" "make heat: $2" "$3" pictures Make; }
+
+cell_mistakes() {
+    local coloured="cells that are coloured" tests=Pictures.test_cells
+    in_heat_map 's/if \(answer == 1\)/if (answer == 1 \&\& row < column)/' "cells one way round" "$coloured" $tests
+    in_heat_map 's/TOP \+ cell->row \*/TOP + (cell->row + 1) */' "rows off by one" "$coloured" $tests
+    in_heat_map 's/LEFT \+ cell->column \*/LEFT + (cell->column - 1) */' "columns off by one" "$coloured" $tests
+    in_heat_map 's/TOP \+ cell->row/TOP + cell->column/; s/LEFT \+ cell->column/LEFT + cell->row/' \
+        "rows for columns" "a tooltip" $tests
+    in_heat_map 's/if \(answer == 1\)/if (answer == 1 || row == column)/' "the diagonal coloured" "$coloured" $tests
+    in_heat_map 's/pair < map->pairs;/pair + 1 < map->pairs;/' "the last pair left out" "status 2" $tests
+    in_heat_map 's/digits < 17/digits < 3/' "values of three digits" "a tooltip" $tests
+    in_heat_map 's/int digits = 0;/int digits = 16;/' "values of 17 digits" "a tooltip" $tests
+    in_heat_map 's/PAIRS = 64/PAIRS = 63/' "no room for 64 pairs" "status 2" $tests
+    in_heat_map 's/CONTEXTS = 256/CONTEXTS = 255/' "no room for 256 contexts" "256 contexts: status 2" $tests
+}
+
+colour_mistakes() {
+    in_heat_map 's/place = value \*/place = (1 - value) */' "the ramp turned round" "is lighter than" \
+        Pictures.test_colours
+    in_heat_map 's/\{29, 92, 160\}/{99, 160, 210}/' "a ramp that rises" "is lighter than" \
+        StandIns.test_every_answer_is_painted_at_its_place
+    in_heat_map 's/\{187, 211, 234\}/{240, 245, 250}/' "a ramp from white on" "nearly white" Pictures.test_colours
+    in_heat_map 's/fill\(cell->value\)/fill(0.5)/' "one colour for all" "is not darker than" Pictures.test_colours
+    in_heat_map 's/fill\(value\);/fill(value * 0.9);/' "another ramp in the scale" "the swatch of" \
+        Pictures.test_scale
+    in_heat_map 's/0\.6, 0\.4/0.6, 0.5/' "another scale" "the scale" Pictures.test_scale
+    in_heat_map 's/#202020/#202021/' "another ink" "the stored picture" Pictures.test_the_stored_picture
+}
+
+picture_mistakes() {
+    in_heat_map '/void paint_rows/,/^}/s/context = 0/context = plan->step/' "no number 0" \
+        "numbers along the left edge" Pictures.test_numbers_along_both_edges
+    in_heat_map '/void paint_columns/,/^}/s/TOP - 8, context\)/TOP - 8, context + 1)/' "numbers from 1" \
+        "numbers along the upper edge" Pictures.test_numbers_along_both_edges
+    in_heat_map '/void paint_columns/,/^}/s/context \+ 0\.5/context + 1.0/' "numbers at the cells' ends" \
+        "the number above column" Pictures.test_numbers_along_both_edges
+    in_heat_map 's/100 \? 32 : 24/100 ? 12 : 12/' "numbers that touch" "numbers that touch" \
+        Pictures.test_numbers_along_both_edges
+    in_heat_map 's/line = 1; line < plan/line = 2; line < plan/' "a line left out" "the grid" Pictures.test_grid
+    in_heat_map 's/ pointer-events=..none..//' "a grid that takes the pointer" "a grid over the tooltips" \
+        Pictures.test_what_lies_on_what
+    in_heat_map '/^    paint_cells\(map/d; s/^    paint_grid\(&plan\);/&\n    paint_cells(map, \&plan);/' \
+        "cells over the grid" "another order" Pictures.test_what_lies_on_what
+    in_heat_map 's/ \+ GAP \+ SCALE_WIDTH\)/)/' "a scale cut off" "test_nothing_is_cut_off" \
+        Pictures.test_nothing_is_cut_off
+    in_heat_map 's/pairs = map->pairs;/pairs = map->pairs + 1u;/' "a pair too many in words" "Pairs listed" \
+        Pictures.test_for_those_who_listen
+    in_heat_map 's/<\/svg>.n/<\/svg>/' "no line end" "the last line" Pictures.test_form
+    in_heat_map 's/printf\("<\/svg>.n"\)/(void)0/' "no well-formed XML" "ParseError" Pictures.test_form
+}
+
+answer_mistakes() {
+    in_heat_map 's/answer > 1\)/answer > 2000000)/' "a refused cell left blank" "Tuples differ: \(0, " \
+        StandIns.test_a_refused_cell_is_never_painted
+    in_heat_map '/^static int ask\(/,/^}/s/return 0;/return 1;/' "a refused cell told, and painted" \
+        "Tuples differ: \(0, " StandIns.test_a_refused_cell_is_never_painted
+    in_heat_map 's/if \(!ask\(map/if (cell % (map->contexts + 1) != 0 \&\& !ask(map/' "the diagonal not asked for" \
+        "cells that are asked for" StandIns.test_every_cell_is_asked_for_once
+    in_heat_map 's/return well && .*/return well;/' "more behind a listing" "AssertionError" \
+        StandIns.test_listings_that_never_are
+    in_heat_map 's/(text->at > first) && sum <= UINT16_MAX/\1/' "large numbers taken" "AssertionError" \
+        StandIns.test_listings_that_never_are
+    in_heat_map 's/text->at < text->end && //' "a number read past the end" "AddressSanitizer" \
+        StandIns.test_listings_that_never_are
+    in_heat_map 's/\(size_t\)\(text->end - text->at\) < length \|\| //' "letters read past the end" "AddressSanitizer" \
+        StandIns.test_listings_that_never_are
+    in_heat_map 's/return DONE;/return REFUSED;/' "status 1 for a picture" "status 1" Pictures.test_form
+    in_heat_map 's/return (refused\(.*)/\1 return DONE;/' "status 0 for a refusal" "a refused sheet" \
+        Streams.test_refused_sheets
+    in_heat_map 's/ferror\(stdout\) \|\| fflush\(stdout\) != 0/0/' "no look at the full disk" "a fault" \
+        Streams.test_cannot_be_written
+}
+
+# shellcheck disable=SC2016
+make_heat_mistakes() {
+    in_make_heat '/^heat:/,/^$/{/Which sheet/d}' "no words where no sheet is named" "what is said"
+    in_make_heat '/^heat:/,/^$/{/scripts\/list.py/d}' "no words for a missing sheet" "what is said"
+    in_make_heat 's/\[ "\$\$SHEET" = - \] \|\| set --/set --/' "no standard input" " : make heat$"
+    in_make_heat 's/(host\/build.sh) > \/dev\/null/\1/' "words before the picture" " : make heat$"
+    in_make_heat 's/heat_map "\$\$@"/heat_map $$@/' "names cut at spaces" "two words"
+    in_make_heat '/^heat:/,/^$/{s/-ne 1 \]/-ne 3 ]/}' "no word of make list" "what is said"
+    in_make_heat 's/^#: make heat/# make heat/' "no line in the help" "test_help"
+}
+
 as_it_is programs
 as_it_is calls
 as_it_is archives
 as_it_is installs
+as_it_is pictures
 list_sheet_mistakes
 check_mistakes
 call_mistakes
@@ -309,5 +408,10 @@ cell_check_mistakes
 archive_mistakes
 readme_mistakes
 install_mistakes
+cell_mistakes
+colour_mistakes
+picture_mistakes
+answer_mistakes
+make_heat_mistakes
 echo "mistakes in C and around it: $tried tried, $wrong problems"
 [ "$wrong" -eq 0 ]
