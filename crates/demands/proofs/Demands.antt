@@ -9,8 +9,11 @@ use contract.Lifetimes.{Lfts}
 use denote.Triple.Clauses.{AtExit}
 use borrow.Fn.Kinds.{Dens, resT, endedOf}
 use Rattle.words.proofs.OneAnswer.{Says}
+use Rattle.order.specs.Order.{_∈_}
+use Rattle.site.specs.Site.{Pair}
 use Rattle.search.specs.Outcome.{Tells}
-use Rattle.join.proofs.Demands.{Demand-1, Demand-2, Demand-3, demand-1, demand-2, demand-3}
+use Rattle.join.specs.Join.{callSite}
+use Rattle.join.proofs.Demands.{Demand-1, Demand-2, Demand-3, callList, demand-1, demand-2, demand-3}
 use Rattle.join.proofs.Only.{callOf, join-says}
 use Rattle.join.proofs.join.Kinds as join-kinds
 use Rattle.join.proofs.join.Reads as join
@@ -29,9 +32,9 @@ use Rattle.heat.proofs.Mapped.{turned}
 use Rattle.heat.proofs.cell_of.Kinds as cell-of-kinds
 use Rattle.heat.proofs.cell_of.Reads as cell-of
 use Rattle.demands.specs.Sheets.{ReadCall, WriteCall, ReadRefuses, WriteRefuses, SheetBack, TablesBack}
-use Rattle.demands.specs.Heat.{CellRefuses, MapsList, BothWays}
+use Rattle.demands.specs.Heat.{CellRefuses, MapsList, Rounds, BothWays}
 use Rattle.demands.proofs.Refusing.{read-refuses, write-refuses}
-use Rattle.demands.proofs.Mapping.{cell-refuses, map-cell}
+use Rattle.demands.proofs.Mapping.{cell-refuses, map-cell, map-rounds}
 
 -- ---- which parameter is which
 
@@ -115,6 +118,11 @@ pub heat-map : (κs : Lfts 5) (κs′ : Lfts 1) (a : Dens κs join-kinds.ps) (b 
     (x : AtExit (endedOf 5 join-kinds.ps join-kinds.r) κs) (y : AtExit (endedOf 1 cell-of-kinds.ps cell-of-kinds.r) κs′)
     → join.Post κs a u x → cell-of.Post κs′ b v y → MapsList (callOf κs a u x) (cellCall κs′ b v)
 heat-map κs κs′ a b u v x y p q f e m told n l k A B = map-cell (join-says κs a u x p) told (cell-of-says κs′ b v y q) n l k A B
+
+-- the values of two pairs on the list of a join that tells f, e and m
+pub map-values : Says 5 join-kinds.ps join-kinds.r join.Post (λ κs a u x. (f e m : ℕ) → Tells u 0 (f ∷ e ∷ m ∷ [])
+    → (p q : Pair) → p ∈ callList (callOf κs a u x) → q ∈ callList (callOf κs a u x) → Rounds (callSite (callOf κs a u x)) p q)
+map-values κs a u x p f e m told = map-rounds (join-says κs a u x p) told
 
 -- two cells, of any list, with the two contexts the other way round
 pub both-ways : (κs κs′ : Lfts 1) (a : Dens κs cell-of-kinds.ps) (b : Dens κs′ cell-of-kinds.ps)

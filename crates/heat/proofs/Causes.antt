@@ -1,7 +1,6 @@
 -- A cell is refused with m at p exactly if that has its cause; where nothing is a cause there is a cell.
 use mathlib.Core.List.{List}
-use mathlib.Core.Logic.{_↔_}
-use mathlib.Core.Path.{_≡_, refl, sym, ap, ap₂, _∙_}
+use mathlib.Core.Path.{_≡_, refl}
 use Prim.Native.Nat.{ℕ, _*_, _/_, _≤_, _<_, zero-le}
 use native.Mathlib.Omega.{arith}
 use lib.ListN.{length}

@@ -14,7 +14,7 @@ use Rattle.words.proofs.Lists.{map-at}
 use Rattle.words.proofs.Split.{by-eq}
 use Rattle.order.specs.Order.{_∈_, keep, kth}
 use Rattle.order.proofs.Lists.{cases, never}
-use Rattle.site.specs.Site.{Site, Rising, Pair, Shares, codesOf, sharedOf, unionOf, union}
+use Rattle.site.specs.Site.{Site, Rising, Pair, Shares, codesOf, sizeOf, sharedOf, unionOf, union}
 use Rattle.site.proofs.Contexts.{getD-in, first-bound, shared-le}
 use Rattle.tables.specs.declared.Check.the-variants as check
 use Rattle.tables.proofs.Meaning.{means-fine}
@@ -26,6 +26,7 @@ use Rattle.heat.specs.Cells.{quotient, pairOf, names, entryFor, cellIn}
 use Rattle.heat.specs.Checks.{numbersCheck, countCheck, entryRule, ruleAt, cellCheck}
 use Rattle.heat.specs.Answers.{cellOf}
 use Rattle.heat.specs.declared.Cell.the-variants as cell
+use Rattle.heat.proofs.Values.{Counts}
 
 -- ---- both ways round
 
@@ -66,18 +67,24 @@ module _ (site : Site) (p : Pair) where
 
 -- ---- pairs that share a code
 
-module _ {site : Site} (R : Rising site) {pairs : List Pair} (share : (p : Pair) → p ∈ pairs → Shares site p) where
-  shared-within : (p : Pair) → sharedOf site p ≤ unionOf site p
-  unfolding union
-  shared-within p =
-      let i = p .lower in
-      let j = p .higher in
-      omega (arith, first-bound (codesOf site i) (codesOf site j), shared-le (codesOf site i) (codesOf site j) (R .rises i) (R .rises j))
+shared-within : {site : Site} → Rising site → (p : Pair) → sharedOf site p ≤ unionOf site p
+unfolding union
+shared-within {site} R p =
+    let i = p .lower in
+    let j = p .higher in
+    omega (arith, first-bound (codesOf site i) (codesOf site j), shared-le (codesOf site i) (codesOf site j) (R .rises i) (R .rises j))
 
+-- their counts, where the tables keep every context small
+pub counts-of : {site : Site} → Rising site → (p : Pair) → Shares site p → sizeOf site (p .lower) ≤ 4096 → sizeOf site (p .higher) ≤ 4096
+    → Counts (sharedOf site p) (unionOf site p)
+unfolding union
+counts-of {site} R p s h k = record { some = omega (arith, s .some, shared-within R p); word = omega arith; part = shared-within R p }
+
+module _ {site : Site} (R : Rising site) {pairs : List Pair} (share : (p : Pair) → p ∈ pairs → Shares site p) where
   -- no entry of theirs breaks the rule
   rule-kept : (p : Pair) → Shares site p → entryRule (length site) (entryOf site p) ≡ 0
   unfolding entryRule
-  rule-kept p s = rw (lt-ltb _ _ (s .rising), lt-ltb _ _ (s .inside), ne-eqb (sharedOf site p) 0 (λ z. omega (arith, s .some)), le-ltb (unionOf site p) (sharedOf site p) (shared-within p))
+  rule-kept p s = rw (lt-ltb _ _ (s .rising), lt-ltb _ _ (s .inside), ne-eqb (sharedOf site p) 0 (λ z. omega (arith, s .some)), le-ltb (unionOf site p) (sharedOf site p) (shared-within R p))
 
   -- the cell of two contexts is the quotient of their own counts if they are one of the pairs, else blank
   pub by-cell : {X : Type 0} (a b : ℕ)

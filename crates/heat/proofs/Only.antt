@@ -1,8 +1,7 @@
 -- The contract of the call says `Shows`, and there is one answer only. `Post` is the contract itself, as it is read from the code.
 use mathlib.Core.Path.{_≡_, sym, _∙_}
 use contract.Lifetimes.{Lfts}
-use denote.Triple.Clauses.{AtExit}
-use borrow.Fn.Kinds.{Dens, resT, endedOf}
+use borrow.Fn.Kinds.{Dens, resT}
 use Rattle.words.proofs.OneAnswer.{Says, OneAnswer}
 use Rattle.heat.specs.Answers.{CellCall, Shows, cellOf}
 use Rattle.heat.proofs.cell_of.Kinds as cell-of-kinds

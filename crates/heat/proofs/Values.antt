@@ -107,21 +107,24 @@ above s u h k l =
     (keeps-order 1 steps s u (pow-pos 33) (omega arith) (omega arith)) (keeps-order s u 1 1 (omega arith) (omega arith) (omega arith))
 
 module _ {s u : ℕ} (c : Counts s u) where
+  some-shared : 0 < s → T (positive (quotient s u))
+  some-shared h = above s u h (c .part) (omega arith)
+
   plain : Plain (quotient s u)
-  plain = by-eq s 0 (λ (z : s ≡ 0). rw (z, nothing u (c .some)) (refl, refl)) (λ n. own-value (quotient s u) (above s u (omega arith) (c .part) (omega arith)))
+  plain = by-eq s 0 (λ (z : s ≡ 0). rw (z, nothing u (c .some)) (refl, refl)) (λ n. own-value (quotient s u) (some-shared (omega arith)))
 
   -- a similarity up to a mark has a value up to that mark
   at-most : (m : ℕ) → 0 < m → m ≤ steps → s * steps ≤ m * u → num (quotient s u) * steps ≤ m * den (quotient s u)
   at-most m M k h = by-eq s 0 (λ (z : s ≡ 0). rw (z, nothing u (c .some)) zero-le) (λ n.
       values-of-le (quotient s u) (quotient m steps) (num (quotient s u)) (den (quotient s u)) m steps
-      (above s u (omega arith) (c .part) (omega arith)) (above m steps M k (omega arith)) plain (held m k) (keeps-order s u m steps (c .some) (pow-pos 33) h))
+      (some-shared (omega arith)) (above m steps M k (omega arith)) plain (held m k) (keeps-order s u m steps (c .some) (pow-pos 33) h))
 
   -- a similarity from a mark on has a value from that mark on
   at-least : (m : ℕ) → 0 < m → m ≤ steps → m * u ≤ s * steps → m * den (quotient s u) ≤ num (quotient s u) * steps
   at-least m M k h =
       let S : 0 < s = first-pos s steps (lt-of-lt-of-le (mul-pos M (c .some)) h) in
       values-of-le (quotient m steps) (quotient s u) m steps (num (quotient s u)) (den (quotient s u))
-      (above m steps M k (omega arith)) (above s u S (c .part) (omega arith)) (held m k) plain (keeps-order m steps s u (pow-pos 33) (c .some) h)
+      (above m steps M k (omega arith)) (some-shared S) (held m k) plain (keeps-order m steps s u (pow-pos 33) (c .some) h)
 
 -- ---- two similarities that differ
 
@@ -147,3 +150,16 @@ apart {s} {u} {t} {v} a b = (
   λ e. by-le (s * v) (t * u) (λ l. by-le (t * u) (s * v) (le-antisymm l) (λ g. absurd (differ a b g e))) (λ g. absurd (differ b a g (sym e))),
   equal-alike s u t v (a .some) (b .some),
 )
+
+-- ---- one similarity
+
+module _ {s u : ℕ} (c : Counts s u) where
+  -- where something is shared the value is above 0.0
+  pub above-zero : 0 < s → T (lt (fin false 0 (pos 0)) (quotient s u))
+  above-zero h =
+      let none : Counts 0 1 = record { some = omega arith; word = omega arith; part = omega arith } in
+      rw (ends .0) at (keeps-apart none c (omega arith))
+
+  -- and it is never above 1.0
+  pub up-to-one : T (le (quotient s u) (fin false 1 (pos 0)))
+  up-to-one = rw (ends .1) at (keeps-order s u 1 1 (c .some) (omega arith) (omega arith))

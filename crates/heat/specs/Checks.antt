@@ -1,5 +1,5 @@
 -- The checks of a call for one cell: refusals 13 and 17, in their order.
-use mathlib.Core.Bool.{cond, _||_}
+use mathlib.Core.Bool.{cond}
 use mathlib.Core.List.{List}
 use Prim.Native.Nat.{ℕ, _*_, _/_, _<_}
 use lib.Dec.{eqb, ltb}

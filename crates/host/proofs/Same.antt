@@ -18,10 +18,7 @@ use Rattle.listing.proofs.Telling.{lists-numbered}
 use Rattle.listing.proofs.Only.{list-sheet-says}
 use Rattle.listing.proofs.list_sheet.Kinds as list-sheet-kinds
 use Rattle.listing.proofs.list_sheet.Reads as list-sheet
-use lib.Ieee.{Float}
-use Rattle.site.specs.declared.Context.{Context}
 use Rattle.heat.specs.Answers.{cellOf, cellValue}
-use Rattle.heat.specs.declared.CellAnswer.{CellAnswer}
 use Rattle.heat.proofs.cell_of.Kinds as cell-of-kinds
 use Rattle.heat.proofs.cell_of.Reads as cell-of
 use Rattle.host.specs.Call.{hostValue, Hosts, hostCell}

@@ -1,5 +1,4 @@
 -- A call through the probe: nothing is done where the answer has under four words, else the call's own contract and its four words.
-use mathlib.Core.Bool.{_||_}
 use mathlib.Core.List.{List, _∷_}
 use mathlib.Core.Path.{_≡_, ap, _∙_}
 use Prim.Native.Nat.{ℕ, _≤_, _<_}
