@@ -18,8 +18,8 @@
 
 #include "sheet_file.h"
 
-/* A sheet that was listed has no more contexts, its list no more pairs. An entry of the list has four words. */
-enum { CONTEXTS = 256, PAIRS = 64, WORDS = 4 };
+/* A sheet that was listed has no more contexts, and its list no more pairs. */
+enum { CONTEXTS = 256, PAIRS = SAZAMKHRI_PAIRS_LIMIT, WORDS = SAZAMKHRI_ENTRY_WORDS };
 
 /* Text that is still to be read. */
 struct text {
@@ -111,13 +111,13 @@ static int ask(struct map *map, uint16_t row, uint16_t column) {
     double value;
     uint64_t answer =
         sazamkhri_cell(map->contexts, map->list, WORDS * (size_t)map->pairs, map->pairs, row, column, &value);
-    if (answer > 1) {
+    if (answer != SAZAMKHRI_BLANK && answer != SAZAMKHRI_VALUE) {
         uint64_t refusal = answer - SAZAMKHRI_REFUSED;
         fprintf(stderr, "heat_map: the cell of contexts %u and %u is refused (%u): %s\n", (unsigned)row,
                 (unsigned)column, (unsigned)refusal, meaning(refusal));
         return 0;
     }
-    if (answer == 1) {
+    if (answer == SAZAMKHRI_VALUE) {
         map->cells[map->coloured++] = (struct cell){row, column, value};
     }
     return 1;

@@ -174,8 +174,9 @@ uint64_t sazamkhri_listing(const uint8_t *sheet, size_t sheet_len, uint8_t *text
  *   refuses. Then *value is 0.0. The place of a refusal is not told here.
  *
  * The value is the double that is nearest to the quotient (round to nearest, ties
- * to even): one division, rounded once. 99 of 100 and 100 of 101, for instance,
- * are two different doubles.
+ * to even): one division, rounded once. Nothing is lost by it (proved): a smaller
+ * quotient is a smaller double, so two doubles are equal exactly if the quotients
+ * are. 99 of 100 and 100 of 101, for instance, are two different doubles.
  *
  * It refuses for these causes, and looks for them in this order:
  *

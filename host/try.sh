@@ -313,16 +313,16 @@ in_make_heat() { plant Makefile "$1" "make heat: $2" "$3" pictures Make; }
 
 cell_mistakes() {
     local coloured="cells that are coloured" tests=Pictures.test_cells
-    in_heat_map 's/if \(answer == 1\)/if (answer == 1 \&\& row < column)/' "cells one way round" "$coloured" $tests
+    in_heat_map 's/(answer == SAZAMKHRI_VALUE)\)/\1 \&\& row < column)/' "cells one way round" "$coloured" $tests
     in_heat_map 's/TOP \+ cell->row \*/TOP + (cell->row + 1) */' "rows off by one" "$coloured" $tests
     in_heat_map 's/LEFT \+ cell->column \*/LEFT + (cell->column - 1) */' "columns off by one" "$coloured" $tests
     in_heat_map 's/TOP \+ cell->row/TOP + cell->column/; s/LEFT \+ cell->column/LEFT + cell->row/' \
         "rows for columns" "a tooltip" $tests
-    in_heat_map 's/if \(answer == 1\)/if (answer == 1 || row == column)/' "the diagonal coloured" "$coloured" $tests
+    in_heat_map 's/(answer == SAZAMKHRI_VALUE)\)/\1 || row == column)/' "the diagonal coloured" "$coloured" $tests
     in_heat_map 's/pair < map->pairs;/pair + 1 < map->pairs;/' "the last pair left out" "status 2" $tests
     in_heat_map 's/digits < 17/digits < 3/' "values of three digits" "a tooltip" $tests
     in_heat_map 's/int digits = 0;/int digits = 16;/' "values of 17 digits" "a tooltip" $tests
-    in_heat_map 's/PAIRS = 64/PAIRS = 63/' "no room for 64 pairs" "status 2" $tests
+    in_heat_map 's/PAIRS = SAZAMKHRI_PAIRS_LIMIT/PAIRS = 63/' "no room for 64 pairs" "status 2" $tests
     in_heat_map 's/CONTEXTS = 256/CONTEXTS = 255/' "no room for 256 contexts" "256 contexts: status 2" $tests
 }
 
@@ -362,7 +362,7 @@ picture_mistakes() {
 }
 
 answer_mistakes() {
-    in_heat_map 's/answer > 1\)/answer > 2000000)/' "a refused cell left blank" "Tuples differ: \(0, " \
+    in_heat_map 's/answer != SAZAMKHRI_VALUE\)/answer > 2000000)/' "a refused cell left blank" "Tuples differ: \(0, " \
         StandIns.test_a_refused_cell_is_never_painted
     in_heat_map '/^static int ask\(/,/^}/s/return 0;/return 1;/' "a refused cell told, and painted" \
         "Tuples differ: \(0, " StandIns.test_a_refused_cell_is_never_painted

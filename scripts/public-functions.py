@@ -29,10 +29,13 @@ ENTRY_POINTS = {
     "writer::write",
     "listing::list_sheet",
     "listing::print_sheet",
+    "heat::cell_of",
     "host::sazamkhri_listing",
+    "host::sazamkhri_cell",
     "probe::probe_join",
     "probe::probe_read",
     "probe::probe_write",
+    "probe::probe_cell",
 }
 
 PUBLIC = re.compile(r'\bpub\s+(?:extern\s+"C"\s+)?fn\s+(\w+)')

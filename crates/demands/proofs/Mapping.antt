@@ -20,7 +20,7 @@ use Rattle.join.proofs.Checks.{call-accepted}
 use Rattle.join.proofs.Demands.{callList, joins-2}
 use Rattle.join.proofs.Outcomes.{listed-only}
 use Rattle.heat.specs.Cells.{cellIn}
-use Rattle.heat.specs.Answers.{CellTells, cellNumber, cellValues, CellCall, callEntries, callChecked, Shows}
+use Rattle.heat.specs.Answers.{CellTells, cellNumber, cellValues, CellCall, cellEntries, cellChecked, Shows}
 use Rattle.heat.specs.declared.Cell.the-variants as cell
 use Rattle.heat.specs.declared.CellAnswer.{CellAnswer}
 use Rattle.heat.specs.declared.CellAnswer.the-variants as answer
@@ -49,8 +49,8 @@ module _ {j : JoinCall} (J : Joins j) {f e m : ℕ} (t : Tells (j .answer) 0 (f 
       let h = held (length (j .list)) (entryWords site (callList j)) few (d .held) in
       let long : length (j .list′) ≡ length (j .list) = ap length (d .held) ∙ padded-length (length (j .list)) (entryWords site (callList j)) few in
       let room : width * f ≤ length (j .list′) = omega (arith, w .list-room, d .size, long) in
-      let fine : callChecked c ≡ check.Fine = rw (n, l, k) (fine-on-map R (d .shares) h (d .counted) room (c .first) (c .second) (rw n at A) (rw n at B)) in
-      let es : callEntries c ≡ map (entryOf site) (callList j) = rw (l, k) (back R (d .shares) h (d .counted) room) in
+      let fine : cellChecked c ≡ check.Fine = rw (n, l, k) (fine-on-map R (d .shares) h (d .counted) room (c .first) (c .second) (rw n at A) (rw n at B)) in
+      let es : cellEntries c ≡ map (entryOf site) (callList j) = rw (l, k) (back R (d .shares) h (d .counted) room) in
       let shown = S .shown fine ∙ ap (λ (x : List Entry). answer.Cell (cellIn (c .first) (c .second) x)) es in
       by-cell R (d .shares) (c .first) (c .second)
       (λ i v. let a = shown ∙ ap answer.Cell v in

@@ -13,8 +13,8 @@ use Rattle.site.specs.Site.{Site, Pair, sharedOf, unionOf}
 use Rattle.search.specs.Outcome.{Tells}
 use Rattle.join.specs.Join.{JoinCall, callSite}
 use Rattle.join.proofs.Demands.{callList}
-use Rattle.heat.specs.Cells.{quotient, pairOf, cellIn}
-use Rattle.heat.specs.Answers.{CellTells, cellNumber, noValue, CellCall, callEntries}
+use Rattle.heat.specs.Cells.{quotient, asPair, cellIn}
+use Rattle.heat.specs.Answers.{CellTells, cellNumber, noValue, CellCall, cellEntries}
 use Rattle.heat.specs.Refusals.{CellCause}
 use Rattle.heat.specs.declared.Cell.the-variants as cell
 use Rattle.heat.specs.declared.CellAnswer.the-variants as answer
@@ -25,13 +25,13 @@ pub record CellRefuses (c : CellCall) : Type 0 where
   -- it refuses with n at p exactly if that has its cause (heat/specs/Refusals.antt)
   pub exactly : (n p : ℕ) → 0 < n → CellTells (c .answer) n (p ∷ []) ↔ CellCause c n p
   -- where nothing is a cause, the answer is the cell (heat/specs/Cells.antt)
-  pub accepted : ((n p : ℕ) → CellCause c n p → ⊥) → c .answer ≡ answer.Cell (cellIn (c .first) (c .second) (callEntries c))
+  pub accepted : ((n p : ℕ) → CellCause c n p → ⊥) → c .answer ≡ answer.Cell (cellIn (c .first) (c .second) (cellEntries c))
 
 -- ---- the heat map
 
 -- the two contexts of a cell, as a pair
 abbrev pub cellPair : CellCall → Pair
-cellPair c = pairOf (c .first) (c .second)
+cellPair c = asPair (c .first) (c .second)
 
 -- how alike two contexts of a site are, as a value of the map: what they share divided by their union, rounded once
 abbrev pub pairValue : Site → Pair → Float

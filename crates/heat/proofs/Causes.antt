@@ -11,7 +11,7 @@ use Rattle.tables.specs.declared.Check.the-variants as check
 use Rattle.tables.proofs.Meaning.{refused-means, means-refused, FirstBreak}
 use Rattle.entries.specs.Entries.{width, entryAt}
 use Rattle.heat.specs.Checks.{numbersCheck, countCheck, ruleAt, cellCheck}
-use Rattle.heat.specs.Refusals.{Cause, first-number, second-number, count, entry}
+use Rattle.heat.specs.Refusals.{NoCell, first-number, second-number, count, entry}
 use Rattle.heat.proofs.Rules.{wrong-is, right-is, is-wrong, is-right}
 
 module _ (contexts : ℕ) (list : List ℕ) (n first second : ℕ) where
@@ -19,7 +19,7 @@ module _ (contexts : ℕ) (list : List ℕ) (n first second : ℕ) where
   theCheck = cellCheck contexts list n first second
 
   abbrev TheCause : ℕ → ℕ → Type 0
-  TheCause = Cause contexts list n first second
+  TheCause = NoCell contexts list n first second
 
   enough : width * n ≤ length list → n ≤ length list / width
   enough h = omega arith

@@ -22,7 +22,7 @@ use Rattle.entries.specs.Entries.{width, entryOf, entries}
 use Rattle.entries.specs.Listed.{entryWords}
 use Rattle.entries.specs.declared.Entry.{Entry}
 use Rattle.entries.proofs.Reading.{entries-at, entries-held}
-use Rattle.heat.specs.Cells.{quotient, pairOf, names, entryFor, cellIn}
+use Rattle.heat.specs.Cells.{quotient, asPair, names, entryFor, cellIn}
 use Rattle.heat.specs.Checks.{numbersCheck, countCheck, entryRule, ruleAt, cellCheck}
 use Rattle.heat.specs.Answers.{cellOf}
 use Rattle.heat.specs.declared.Cell.the-variants as cell
@@ -88,12 +88,12 @@ module _ {site : Site} (R : Rising site) {pairs : List Pair} (share : (p : Pair)
 
   -- the cell of two contexts is the quotient of their own counts if they are one of the pairs, else blank
   pub by-cell : {X : Type 0} (a b : ℕ)
-      → (pairOf a b ∈ pairs → cellIn a b (map (entryOf site) pairs) ≡ cell.Value (quotient (sharedOf site (pairOf a b)) (unionOf site (pairOf a b))) → X)
-      → ((pairOf a b ∈ pairs → ⊥) → cellIn a b (map (entryOf site) pairs) ≡ cell.Blank → X) → X
+      → (asPair a b ∈ pairs → cellIn a b (map (entryOf site) pairs) ≡ cell.Value (quotient (sharedOf site (asPair a b)) (unionOf site (asPair a b))) → X)
+      → ((asPair a b ∈ pairs → ⊥) → cellIn a b (map (entryOf site) pairs) ≡ cell.Blank → X) → X
   unfolding cellIn
   by-cell a b f g =
-      by-listed site (pairOf a b) pairs
-      (λ m e. f m (let n : a ≡ b → ⊥ = λ z. omega (arith, share (pairOf a b) m .rising) in rw (ne-eqb a b n, e)))
+      by-listed site (asPair a b) pairs
+      (λ m e. f m (let n : a ≡ b → ⊥ = λ z. omega (arith, share (asPair a b) m .rising) in rw (ne-eqb a b n, e)))
       (λ m e. g m (by-eq a b (λ z. rw (eq-eqb a b z)) (λ n. rw (ne-eqb a b n, e))))
 
   -- a list that holds their entries
@@ -105,7 +105,7 @@ module _ {site : Site} (R : Rising site) {pairs : List Pair} (share : (p : Pair)
     kept-at : (i : ℕ) → i < found → ruleAt (length site) list i ≡ 0
     unfolding ruleAt
     kept-at i l =
-        let any = pairOf 0 0 in
+        let any = asPair 0 0 in
         let d = entryOf site any in
         let l′ : i < length pairs = omega (arith, c) in
         let e = sym (entries-at list found i d l) ∙ ap (λ (es : List Entry). getD es i d) back ∙ map-at (entryOf site) pairs i d any l′ in

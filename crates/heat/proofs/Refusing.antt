@@ -6,7 +6,7 @@ use native.Mathlib.Omega.{arith}
 use Rattle.tables.specs.declared.Check.{Check}
 use Rattle.tables.specs.declared.Check.the-variants as check
 use Rattle.heat.specs.Cells.{cellIn}
-use Rattle.heat.specs.Answers.{cellNumber, cellValues, CellTells, CellCall, callEntries, callChecked, Shows}
+use Rattle.heat.specs.Answers.{cellNumber, cellValues, CellTells, CellCall, cellEntries, cellChecked, Shows}
 use Rattle.heat.specs.Refusals.{CellCause}
 use Rattle.heat.specs.declared.CellAnswer.{CellAnswer}
 use Rattle.heat.specs.declared.CellAnswer.the-variants as answer
@@ -19,10 +19,10 @@ told-refused (answer.Refused a b) {n} {p} h t = let q : b ≡ p = cc (t .1) in �
 
 module _ {c : CellCall} (S : Shows c) where
   -- what is answered as a refusal is what the checks refuse
-  checked-so : {n p : ℕ} → c .answer ≡ answer.Refused n p → callChecked c ≡ check.Refused n p
-  checked-so {n} {p} e = go (callChecked c) refl
+  checked-so : {n p : ℕ} → c .answer ≡ answer.Refused n p → cellChecked c ≡ check.Refused n p
+  checked-so {n} {p} e = go (cellChecked c) refl
     where
-      go : (x : Check) → callChecked c ≡ x → callChecked c ≡ check.Refused n p
+      go : (x : Check) → cellChecked c ≡ x → cellChecked c ≡ check.Refused n p
       go check.Fine f = let z : _≡_ {A = ℕ} 0 1 = cc (sym (S .shown f) ∙ e) in absurd (omega arith)
       go (check.Refused m q) f =
           let same = sym (S .refused m q f) ∙ e in
@@ -36,5 +36,5 @@ module _ {c : CellCall} (S : Shows c) where
   pub cause-refused : {n p : ℕ} → CellCause c n p → CellTells (c .answer) n (p ∷ [])
   cause-refused {n} {p} x = let e = S .refused n p (of-cause _ _ _ _ _ x) in (ap cellNumber e, ap cellValues e)
 
-  pub none-shown : ((n p : ℕ) → CellCause c n p → ⊥) → c .answer ≡ answer.Cell (cellIn (c .first) (c .second) (callEntries c))
+  pub none-shown : ((n p : ℕ) → CellCause c n p → ⊥) → c .answer ≡ answer.Cell (cellIn (c .first) (c .second) (cellEntries c))
   none-shown none = S .shown (fine-without _ _ _ _ _ none)

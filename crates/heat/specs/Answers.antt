@@ -46,13 +46,13 @@ cellValue (answer.Refused number place) = noValue
 -- ---- the answer
 
 -- what a check refuses, or a cell
-abbrev pub checked : Check → Cell → CellAnswer
-checked check.Fine c = answer.Cell c
-checked (check.Refused n p) c = answer.Refused n p
+abbrev pub cellBy : Check → Cell → CellAnswer
+cellBy check.Fine c = answer.Cell c
+cellBy (check.Refused n p) c = answer.Refused n p
 
 -- the checks, then the cell in the first n entries of the list
 unfoldable pub cellOf : ℕ → List ℕ → ℕ → ℕ → ℕ → CellAnswer
-cellOf contexts list n first second = checked (cellCheck contexts list n first second) (cellIn first second (entries n list))
+cellOf contexts list n first second = cellBy (cellCheck contexts list n first second) (cellIn first second (entries n list))
 
 -- ---- a call
 
@@ -66,16 +66,16 @@ pub record CellCall : Type 0 where
   pub answer : CellAnswer
 
 -- the entries that it counts
-abbrev pub callEntries : CellCall → List Entry
-callEntries c = entries (c .entries) (c .list)
+abbrev pub cellEntries : CellCall → List Entry
+cellEntries c = entries (c .entries) (c .list)
 
 -- what the checks say of it
-abbrev pub callChecked : CellCall → Check
-callChecked c = cellCheck (c .contexts) (c .list) (c .entries) (c .first) (c .second)
+abbrev pub cellChecked : CellCall → Check
+cellChecked c = cellCheck (c .contexts) (c .list) (c .entries) (c .first) (c .second)
 
 -- the contract of the call
 pub record Shows (c : CellCall) : Type 0 where
   -- 13 and 17: what the checks say
-  pub refused : (n p : ℕ) → callChecked c ≡ check.Refused n p → c .answer ≡ answer.Refused n p
+  pub refused : (n p : ℕ) → cellChecked c ≡ check.Refused n p → c .answer ≡ answer.Refused n p
   -- else the cell of its two contexts
-  pub shown : callChecked c ≡ check.Fine → c .answer ≡ answer.Cell (cellIn (c .first) (c .second) (callEntries c))
+  pub shown : cellChecked c ≡ check.Fine → c .answer ≡ answer.Cell (cellIn (c .first) (c .second) (cellEntries c))

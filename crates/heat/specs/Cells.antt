@@ -26,8 +26,8 @@ abbrev pub pair : Context → Context → Pair
 pair lower higher = record { lower = lower .0; higher = higher .0 }
 
 -- two context numbers in either order
-abbrev pub pairOf : ℕ → ℕ → Pair
-pairOf first second = record { lower = min first second; higher = max first second }
+abbrev pub asPair : ℕ → ℕ → Pair
+asPair first second = record { lower = min first second; higher = max first second }
 
 -- an entry names a pair
 unfoldable pub names : Pair → Entry → Bool
@@ -46,4 +46,4 @@ cellFor (some e) = Value (quotient (e .shared) (e .union))
 
 -- the cell of two contexts: blank for a context against itself, and for a pair that is not listed
 unfoldable pub cellIn : ℕ → ℕ → List Entry → Cell
-cellIn first second es = cond (eqb first second) Blank (cellFor (entryFor (pairOf first second) es))
+cellIn first second es = cond (eqb first second) Blank (cellFor (entryFor (asPair first second) es))

@@ -16,14 +16,14 @@ Wrong contexts e = (e .higher .0 ≤ e .lower .0) ⊎ ((contexts ≤ e .higher .
 abbrev pub WrongAt : ℕ → List ℕ → ℕ → Type 0
 WrongAt contexts list i = Wrong contexts (entryAt list (width * i))
 
--- the cause of a refusal; each is looked at after those above it
-pub data Cause (contexts : ℕ) (list : List ℕ) (n first second : ℕ) : ℕ → ℕ → Type 0 where
-  first-number : contexts ≤ first → Cause contexts list n first second 13 0
-  second-number : first < contexts → contexts ≤ second → Cause contexts list n first second 13 1
-  count : first < contexts → second < contexts → length list < width * n → Cause contexts list n first second 17 0
+-- why there is no cell: the cause of a refusal. Each is looked at after those above it
+pub data NoCell (contexts : ℕ) (list : List ℕ) (n first second : ℕ) : ℕ → ℕ → Type 0 where
+  first-number : contexts ≤ first → NoCell contexts list n first second 13 0
+  second-number : first < contexts → contexts ≤ second → NoCell contexts list n first second 13 1
+  count : first < contexts → second < contexts → length list < width * n → NoCell contexts list n first second 17 0
   entry : {p : ℕ} → first < contexts → second < contexts → width * n ≤ length list
-      → p < n → WrongAt contexts list p → ((q : ℕ) → q < p → WrongAt contexts list q → ⊥) → Cause contexts list n first second 17 p
+      → p < n → WrongAt contexts list p → ((q : ℕ) → q < p → WrongAt contexts list q → ⊥) → NoCell contexts list n first second 17 p
 
 -- the cause of a call's refusal
 abbrev pub CellCause : CellCall → ℕ → ℕ → Type 0
-CellCause c n p = Cause (c .contexts) (c .list) (c .entries) (c .first) (c .second) n p
+CellCause c n p = NoCell (c .contexts) (c .list) (c .entries) (c .first) (c .second) n p
