@@ -11,11 +11,13 @@ import re
 import sys
 from pathlib import Path
 
-# The statements: the package's demands and the join's, and the contracts that are records of their own.
+# The statements: the package's demands and the join's, which parameter is which, and the contracts that are records of
+# their own.
 START = (
     "crates/demands/proofs/Demands.antt",
     "crates/join/proofs/Demands.antt",
     "crates/join/proofs/Only.antt",
+    "crates/heat/proofs/Only.antt",
     "crates/listing/specs/Calls.antt",
     "crates/host/specs/Call.antt",
 )

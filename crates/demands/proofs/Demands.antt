@@ -32,9 +32,9 @@ use Rattle.heat.proofs.Mapped.{turned}
 use Rattle.heat.proofs.cell_of.Kinds as cell-of-kinds
 use Rattle.heat.proofs.cell_of.Reads as cell-of
 use Rattle.demands.specs.Sheets.{ReadCall, WriteCall, ReadRefuses, WriteRefuses, SheetBack, TablesBack}
-use Rattle.demands.specs.Heat.{CellRefuses, MapsList, Rounds, BothWays}
-use Rattle.demands.proofs.Refusing.{read-refuses, write-refuses}
-use Rattle.demands.proofs.Mapping.{cell-refuses, map-cell, map-rounds}
+use Rattle.demands.specs.Heat.{CellRefuses, MapsList, Rounds, InRange, BothWays}
+use Rattle.demands.proofs.Refusing.{read-refuses, write-refuses, cell-refuses}
+use Rattle.demands.proofs.Mapping.{map-cell, map-rounds, map-range}
 
 -- ---- which parameter is which
 
@@ -117,9 +117,14 @@ pub heat-map : (κs : Lfts 5) (κs′ : Lfts 1) (a : Dens κs join-kinds.ps) (b 
     (u : resT join-kinds.r κs .Denot) (v : resT cell-of-kinds.r κs′ .Denot)
     (x : AtExit (endedOf 5 join-kinds.ps join-kinds.r) κs) (y : AtExit (endedOf 1 cell-of-kinds.ps cell-of-kinds.r) κs′)
     → join.Post κs a u x → cell-of.Post κs′ b v y → MapsList (callOf κs a u x) (cellCall κs′ b v)
-heat-map κs κs′ a b u v x y p q f e m told n l k A B = map-cell (join-says κs a u x p) told (cell-of-says κs′ b v y q) n l k A B
+heat-map κs κs′ a b u v x y p q f e m told n k l A B = map-cell (join-says κs a u x p) told (cell-of-says κs′ b v y q) n k l A B
 
--- the values of two pairs on the list of a join that tells f, e and m
+-- the value of a pair on the list of a join that tells f, e and m
+pub map-value : Says 5 join-kinds.ps join-kinds.r join.Post (λ κs a u x. (f e m : ℕ) → Tells u 0 (f ∷ e ∷ m ∷ [])
+    → (p : Pair) → p ∈ callList (callOf κs a u x) → InRange (callSite (callOf κs a u x)) p)
+map-value κs a u x p f e m told = map-range (join-says κs a u x p) told
+
+-- and those of two
 pub map-values : Says 5 join-kinds.ps join-kinds.r join.Post (λ κs a u x. (f e m : ℕ) → Tells u 0 (f ∷ e ∷ m ∷ [])
     → (p q : Pair) → p ∈ callList (callOf κs a u x) → q ∈ callList (callOf κs a u x) → Rounds (callSite (callOf κs a u x)) p q)
 map-values κs a u x p f e m told = map-rounds (join-says κs a u x p) told

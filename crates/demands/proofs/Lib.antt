@@ -1,6 +1,6 @@
--- the refusals of reader and writer, from their contracts as records
+-- the refusals of reader, writer and the call for one cell, from their contracts as records
 pub mod Refusing
 -- the heat map of a join's list, from the contracts as records
 pub mod Mapping
--- the three demands, each of the contract of its call: read this first
+-- the three demands and the heat map, each of the contract of its call: read this first
 pub mod Demands

@@ -1,4 +1,4 @@
--- What the records of reader and writer say of refusals: each has its cause, what has a cause is refused, and the buffers after it.
+-- What the records of reader, writer and the call for one cell say of refusals: each has its cause, what has a cause is refused, and the buffers after it.
 use mathlib.Core.List.{List, [], _∷_}
 use mathlib.Core.Path.{_≡_, refl, sym, ap, _∙_}
 use Prim.Native.Nat.{ℕ}
@@ -15,6 +15,9 @@ use Rattle.reader.specs.Answers.{ReadingTells, sheetValues, readingAt, offsetsB
 use Rattle.reader.specs.Calls.{Reads}
 use Rattle.writer.specs.Calls.{Writes}
 use Rattle.writer.proofs.Answers.{refused-told, told-refused, refused-cause, cause-refused, none-written, refused-unchanged, refused-emptied}
+use Rattle.heat.specs.Answers.{CellCall, Shows}
+use Rattle.heat.proofs.Refusing as cell
+use Rattle.demands.specs.Heat.{CellRefuses}
 use Rattle.demands.specs.Sheets.{ReadCall, ReadRefuses, WriteCall, WriteRefuses}
 
 -- no words and zeros behind them are zeros
@@ -54,3 +57,6 @@ module _ {w : WriteCall} (W : Writes (w .k) (w .offsets) (w .codes) (w .text) (w
     unchanged = λ n p h not-12 e. refused-unchanged W (told-refused (w .answer) h e) not-12;
     emptied = λ p e. refused-emptied W (told-refused (w .answer) (omega arith) e) ∙ none-zeros (w .text);
   }
+
+pub cell-refuses : {c : CellCall} → Shows c → CellRefuses c
+cell-refuses S = record { exactly = λ n p h. (cell.refused-cause S h, cell.cause-refused S); accepted = cell.none-shown S }

@@ -1,20 +1,19 @@
 -- What the call for one cell owes: demand 1, its refusals; and the heat map, the cells of the list that a join left.
-use mathlib.Core.Bool.{false}
 use mathlib.Core.List.{[], _∷_}
 use mathlib.Core.Logic.{_↔_}
 use mathlib.Core.Path.{_≡_}
 use Prim.Native.Nat.{ℕ, _*_, _<_}
 use lib.Dec.{T}
-use lib.Ieee.{Float, fin, lt, le}
-use lib.IntN.{pos}
-use lib.ListN.{length}
+use lib.Ieee.{Float, lt, le}
+use lib.ListN.{length, take}
 use Rattle.order.specs.Order.{_∈_}
 use Rattle.site.specs.Site.{Site, Pair, sharedOf, unionOf}
+use Rattle.entries.specs.Entries.{width}
 use Rattle.search.specs.Outcome.{Tells}
 use Rattle.join.specs.Join.{JoinCall, callSite}
 use Rattle.join.proofs.Demands.{callList}
-use Rattle.heat.specs.Cells.{quotient, asPair, cellIn}
-use Rattle.heat.specs.Answers.{CellTells, cellNumber, noValue, CellCall, cellEntries}
+use Rattle.heat.specs.Cells.{nought, one, quotient, asPair, cellIn}
+use Rattle.heat.specs.Answers.{CellTells, CellCall, cellEntries}
 use Rattle.heat.specs.Refusals.{CellCause}
 use Rattle.heat.specs.declared.Cell.the-variants as cell
 use Rattle.heat.specs.declared.CellAnswer.the-variants as answer
@@ -33,39 +32,38 @@ pub record CellRefuses (c : CellCall) : Type 0 where
 abbrev pub cellPair : CellCall → Pair
 cellPair c = asPair (c .first) (c .second)
 
--- how alike two contexts of a site are, as a value of the map: what they share divided by their union, rounded once
+-- shared / union of two contexts of a site, rounded once
 abbrev pub pairValue : Site → Pair → Float
 pairValue site p = quotient (sharedOf site p) (unionOf site p)
 
 -- a cell of the list that the join j left
 pub record OnMap (j : JoinCall) (c : CellCall) : Type 0 where
   -- it is not refused
-  pub accepted : cellNumber (c .answer) ≡ 0
+  pub accepted : (n p : ℕ) → c .answer ≡ answer.Refused n p → ⊥
   -- it has a value exactly if the pair is listed
-  pub listed : CellTells (c .answer) 0 (1 ∷ []) ↔ cellPair c ∈ callList j
-  -- that value is how alike its two contexts are on the site
+  pub listed : ((v : Float) × (c .answer ≡ answer.Cell (cell.Value v))) ↔ cellPair c ∈ callList j
+  -- that value is shared / union of its two contexts on the site
   pub value : cellPair c ∈ callList j → c .answer ≡ answer.Cell (cell.Value (pairValue (callSite j) (cellPair c)))
   -- else it is blank
   pub blank : (cellPair c ∈ callList j → ⊥) → c .answer ≡ answer.Cell cell.Blank
 
--- A join that tells f pairs found, and a cell of two of its contexts: given to `cell_of` are the number of contexts, the list as the
--- join left it, and f.
+-- A join that tells f pairs found, and a cell of two of its contexts: given to `cell_of` are the number of contexts, f, and a list
+-- that begins with the f entries that the join left, whatever stands behind them.
 abbrev pub MapsList : JoinCall → CellCall → Type 0
 MapsList j c =
     (f e m : ℕ) → Tells (j .answer) 0 (f ∷ e ∷ m ∷ [])
-    → c .contexts ≡ length (callSite j) → c .list ≡ j .list′ → c .entries ≡ f
+    → c .contexts ≡ length (callSite j) → c .entries ≡ f → take (width * f) (c .list) ≡ take (width * f) (j .list′)
     → c .first < c .contexts → c .second < c .contexts → OnMap j c
 
--- 1.0
-abbrev pub one : Float
-one = fin false 1 (pos 0)
-
--- The rounding loses nothing: of two pairs the one that is less alike has the smaller value, and two values are equal exactly if
--- shared / union are. Both values are above 0.0, and neither is above 1.0.
+-- The rounding loses nothing: of two pairs the one with the smaller shared / union has the smaller value, and two values are equal
+-- exactly if these are.
 pub record Rounds (site : Site) (p q : Pair) : Type 0 where
   pub less : sharedOf site p * unionOf site q < sharedOf site q * unionOf site p → T (lt (pairValue site p) (pairValue site q))
   pub same : pairValue site p ≡ pairValue site q ↔ sharedOf site p * unionOf site q ≡ sharedOf site q * unionOf site p
-  pub above : T (lt noValue (pairValue site p))
+
+-- A value is above 0.0, and at most 1.0.
+pub record InRange (site : Site) (p : Pair) : Type 0 where
+  pub above : T (lt nought (pairValue site p))
   pub most : T (le (pairValue site p) one)
 
 -- Two cells with the same two contexts the other way round, of any list: both answers are the same, unless a number is refused.

@@ -1,10 +1,10 @@
 -- Worked cells, by computation: one table with one claim.
-use mathlib.Core.List.{List, [], _∷_, map}
+use mathlib.Core.List.{List, [], _∷_, _++_, map}
 use mathlib.Core.Path.{_≡_, refl}
 use Prim.Native.Nat.{ℕ}
 use Rattle.order.specs.Order.{keep, kth}
 use Rattle.tables.specs.Earliest.{firstOf, earliest}
-use Rattle.entries.specs.Entries.{entriesFrom}
+use Rattle.entries.specs.Entries.{context, words, entriesFrom}
 use Rattle.heat.specs.Cells.{quotient, names, entryFor, cellIn}
 use Rattle.heat.specs.Checks.{numbersCheck, countCheck, entryRule, ruleAt, cellCheck}
 use Rattle.heat.specs.Answers.{cellOf}
@@ -24,29 +24,22 @@ record Case : Type 0 where
 unfoldable case : ℕ → List ℕ → ℕ → ℕ → ℕ → CellAnswer → Case
 case contexts list entries first second answer = record { contexts = contexts; list = list; entries = entries; first = first; second = second; answer = answer }
 
+-- an entry's words
+unfoldable entry : ℕ → ℕ → ℕ → ℕ → List ℕ
+entry lower higher shared union = words (record { lower = context lower; higher = context higher; shared = shared; union = union })
+
 -- 'Three' with k = 2: two entries, and here three words of no whole entry behind them
 unfoldable three : List ℕ
-three = 0 ∷ 1 ∷ 4 ∷ 5 ∷ 1 ∷ 2 ∷ 4 ∷ 5 ∷ 9 ∷ 9 ∷ 9 ∷ []
+unfolding entry
+three = entry 0 1 4 5 ++ entry 1 2 4 5 ++ 9 ∷ 9 ∷ 9 ∷ []
 
--- one pair twice, and a wrong entry behind: contexts that are equal
+-- one pair twice, and a wrong entry behind: its contexts are equal
 unfoldable twice : List ℕ
-twice = 0 ∷ 1 ∷ 1 ∷ 3 ∷ 0 ∷ 1 ∷ 2 ∷ 3 ∷ 2 ∷ 2 ∷ 1 ∷ 1 ∷ []
-
--- one entry that is not rising, not below 3 contexts, of no shared code, and of more shared than there are
-unfoldable falls : List ℕ
-falls = 2 ∷ 1 ∷ 1 ∷ 1 ∷ []
-
-unfoldable beyond : List ℕ
-beyond = 1 ∷ 3 ∷ 1 ∷ 1 ∷ []
-
-unfoldable unshared : List ℕ
-unshared = 0 ∷ 1 ∷ 0 ∷ 1 ∷ []
-
-unfoldable over : List ℕ
-over = 0 ∷ 1 ∷ 3 ∷ 2 ∷ []
+unfolding entry
+twice = entry 0 1 1 3 ++ entry 0 1 2 3 ++ entry 2 2 1 1
 
 unfoldable cases : List Case
-unfolding case three twice falls beyond unshared over
+unfolding case entry three twice
 cases =
     case 3 three 2 0 1 (Cell (Value (quotient 4 5)))
     ∷ case 3 three 2 1 0 (Cell (Value (quotient 4 5)))
@@ -63,13 +56,13 @@ cases =
     ∷ case 2 three 2 0 1 (Refused 17 1)
     ∷ case 2 three 2 1 1 (Refused 17 1)
     ∷ case 3 twice 3 0 1 (Refused 17 2)
-    ∷ case 3 falls 1 0 1 (Refused 17 0)
-    ∷ case 3 beyond 1 0 1 (Refused 17 0)
-    ∷ case 4 beyond 1 1 3 (Cell (Value (quotient 1 1)))
-    ∷ case 3 unshared 1 0 2 (Refused 17 0)
-    ∷ case 3 over 1 0 2 (Refused 17 0)
+    ∷ case 3 (entry 2 1 1 1) 1 0 1 (Refused 17 0)
+    ∷ case 3 (entry 1 3 1 1) 1 0 1 (Refused 17 0)
+    ∷ case 4 (entry 1 3 1 1) 1 1 3 (Cell (Value (quotient 1 1)))
+    ∷ case 3 (entry 0 1 0 1) 1 0 2 (Refused 17 0)
+    ∷ case 3 (entry 0 1 3 2) 1 0 2 (Refused 17 0)
     ∷ []
 
 worked : map (λ (c : Case). cellOf (c .contexts) (c .list) (c .entries) (c .first) (c .second)) cases ≡ map (λ (c : Case). c .answer) cases
-unfolding cases case three twice falls beyond unshared over cellOf cellCheck numbersCheck countCheck ruleAt entryRule earliest firstOf cellIn entryFor keep kth names entriesFrom
+unfolding cases case entry three twice cellOf cellCheck numbersCheck countCheck ruleAt entryRule earliest firstOf cellIn entryFor keep kth names entriesFrom
 worked = refl

@@ -1,15 +1,15 @@
 -- The cells of two contexts turned round, and over the entries of pairs that share a code, as a join leaves them in its list.
 use mathlib.Core.Bool.{true, and-eq-true-iff}
-use mathlib.Core.List.{List, [], _∷_, map, List·Memᴰ·head as here, List·Memᴰ·tail as there, List·Memᴰ·not-nil as not-nil, List·Memᴰ·cases-cons as first-or-rest}
+use mathlib.Core.List.{List, [], _∷_, _++_, map, List·Memᴰ·head as here, List·Memᴰ·tail as there, List·Memᴰ·not-nil as not-nil, List·Memᴰ·cases-cons as first-or-rest}
 use mathlib.Core.Logic.{⊎-elim}
 use mathlib.Core.Option.{none, some}
 use mathlib.Core.Path.{_≡_, refl, sym, ap, _∙_}
 use Prim.Native.Nat.{ℕ, _*_, _/_, _≤_, _<_, min, max, zero-le}
 use native.Mathlib.Omega.{arith}
 use lib.Dec.{eqb}
-use lib.ListN.{length, getD, length-map}
+use lib.ListN.{length, getD, drop, length-map, length-take, take-append-drop}
 use borrow.Author.Tests.{eq-eqb, ne-eqb, lt-ltb, le-ltb, eqb-true}
-use Rattle.words.specs.Words.{Holds}
+use Rattle.words.specs.Words.{Begins}
 use Rattle.words.proofs.Lists.{map-at}
 use Rattle.words.proofs.Split.{by-eq}
 use Rattle.order.specs.Order.{_∈_, keep, kth}
@@ -21,12 +21,13 @@ use Rattle.tables.proofs.Meaning.{means-fine}
 use Rattle.entries.specs.Entries.{width, entryOf, entries}
 use Rattle.entries.specs.Listed.{entryWords}
 use Rattle.entries.specs.declared.Entry.{Entry}
-use Rattle.entries.proofs.Reading.{entries-at, entries-held}
+use Rattle.entries.proofs.Listed.{entry-length}
+use Rattle.entries.proofs.Reading.{entries-at, read-back}
 use Rattle.heat.specs.Cells.{quotient, asPair, names, entryFor, cellIn}
 use Rattle.heat.specs.Checks.{numbersCheck, countCheck, entryRule, ruleAt, cellCheck}
 use Rattle.heat.specs.Answers.{cellOf}
 use Rattle.heat.specs.declared.Cell.the-variants as cell
-use Rattle.heat.proofs.Values.{Counts}
+use Rattle.heat.proofs.Values.{TwoCounts}
 
 -- ---- both ways round
 
@@ -76,16 +77,16 @@ shared-within {site} R p =
 
 -- their counts, where the tables keep every context small
 pub counts-of : {site : Site} → Rising site → (p : Pair) → Shares site p → sizeOf site (p .lower) ≤ 4096 → sizeOf site (p .higher) ≤ 4096
-    → Counts (sharedOf site p) (unionOf site p)
+    → TwoCounts (sharedOf site p) (unionOf site p)
 unfolding union
 counts-of {site} R p s h k = record { some = omega (arith, s .some, shared-within R p); word = omega arith; part = shared-within R p }
 
-module _ {site : Site} (R : Rising site) {pairs : List Pair} (share : (p : Pair) → p ∈ pairs → Shares site p) where
-  -- no entry of theirs breaks the rule
-  rule-kept : (p : Pair) → Shares site p → entryRule (length site) (entryOf site p) ≡ 0
-  unfolding entryRule
-  rule-kept p s = rw (lt-ltb _ _ (s .rising), lt-ltb _ _ (s .inside), ne-eqb (sharedOf site p) 0 (λ z. omega (arith, s .some)), le-ltb (unionOf site p) (sharedOf site p) (shared-within R p))
+-- their entries keep the rule
+rule-kept : {site : Site} → Rising site → (p : Pair) → Shares site p → entryRule (length site) (entryOf site p) ≡ 0
+unfolding entryRule
+rule-kept {site} R p s = rw (lt-ltb _ _ (s .rising), lt-ltb _ _ (s .inside), ne-eqb (sharedOf site p) 0 (λ z. omega (arith, s .some)), le-ltb (unionOf site p) (sharedOf site p) (shared-within R p))
 
+module _ {site : Site} {pairs : List Pair} (share : (p : Pair) → p ∈ pairs → Shares site p) where
   -- the cell of two contexts is the quotient of their own counts if they are one of the pairs, else blank
   pub by-cell : {X : Type 0} (a b : ℕ)
       → (asPair a b ∈ pairs → cellIn a b (map (entryOf site) pairs) ≡ cell.Value (quotient (sharedOf site (asPair a b)) (unionOf site (asPair a b))) → X)
@@ -96,12 +97,21 @@ module _ {site : Site} (R : Rising site) {pairs : List Pair} (share : (p : Pair)
       (λ m e. f m (let n : a ≡ b → ⊥ = λ z. omega (arith, share (asPair a b) m .rising) in rw (ne-eqb a b n, e)))
       (λ m e. g m (by-eq a b (λ z. rw (eq-eqb a b z)) (λ n. rw (ne-eqb a b n, e))))
 
-  -- a list that holds their entries
-  module _ {list : List ℕ} {found : ℕ} (h : Holds list (entryWords site pairs)) (c : found ≡ length pairs) (room : width * found ≤ length list) where
-    -- they are read from it
-    pub back : entries found list ≡ map (entryOf site) pairs
-    back = entries-held (map (entryOf site) pairs) (c ∙ sym (length-map pairs (entryOf site))) h
+-- ---- a list that begins with their entries, whatever stands behind
 
+module _ (site : Site) (pairs : List Pair) (list : List ℕ) {found : ℕ} (h : Begins list (entryWords site pairs)) (c : found ≡ length pairs) where
+  -- it has room for them
+  room : width * found ≤ length list
+  room = omega (arith, c, entry-length site pairs, ap length h, length-take (length (entryWords site pairs)) list)
+
+  -- they are read from it
+  pub back : entries found list ≡ map (entryOf site) pairs
+  back =
+      let es = map (entryOf site) pairs in
+      let whole : entryWords site pairs ++ drop (length (entryWords site pairs)) list ≡ list = ap (λ (ws : List ℕ). ws ++ drop (length (entryWords site pairs)) list) (sym h) ∙ take-append-drop (length (entryWords site pairs)) list in
+      rw (c ∙ sym (length-map pairs (entryOf site)), ← whole) (read-back [] es (drop (length (entryWords site pairs)) list))
+
+  module _ (R : Rising site) (share : (p : Pair) → p ∈ pairs → Shares site p) where
     kept-at : (i : ℕ) → i < found → ruleAt (length site) list i ≡ 0
     unfolding ruleAt
     kept-at i l =
@@ -109,11 +119,11 @@ module _ {site : Site} (R : Rising site) {pairs : List Pair} (share : (p : Pair)
         let d = entryOf site any in
         let l′ : i < length pairs = omega (arith, c) in
         let e = sym (entries-at list found i d l) ∙ ap (λ (es : List Entry). getD es i d) back ∙ map-at (entryOf site) pairs i d any l′ in
-        ap (entryRule (length site)) e ∙ rule-kept (getD pairs i any) (share (getD pairs i any) (getD-in pairs i any l′))
+        ap (entryRule (length site)) e ∙ rule-kept R (getD pairs i any) (share (getD pairs i any) (getD-in pairs i any l′))
 
     -- no cell of two contexts of the site is refused
     pub fine-on-map : (a b : ℕ) → a < length site → b < length site → cellCheck (length site) list found a b ≡ check.Fine
     unfolding cellCheck numbersCheck countCheck
     fine-on-map a b A B =
-        let few : found ≤ length list / width = omega arith in
+        let few : found ≤ length list / width = omega (arith, room) in
         rw (lt-ltb a (length site) A, lt-ltb b (length site) B, le-ltb (length list / width) found few) (means-fine (ruleAt (length site) list) 0 found zero-le (λ j x l. kept-at j l))

@@ -1,12 +1,14 @@
 -- The rule of an entry and its meaning: it says 17 exactly if the entry is wrong, and else 0.
+use mathlib.Core.List.{List}
 use mathlib.Core.Logic.{inl, inr, ⊎-elim}
-use mathlib.Core.Path.{_≡_, sym, _∙_}
-use Prim.Native.Nat.{ℕ, _<_}
+use mathlib.Core.Path.{_≡_, sym, ap, _∙_}
+use Prim.Native.Nat.{ℕ, _*_, _<_}
 use native.Mathlib.Omega.{arith}
 use borrow.Author.Tests.{eq-eqb, ne-eqb, lt-ltb, le-ltb}
 use Rattle.words.proofs.Split.{by-eq, by-le}
+use Rattle.entries.specs.Entries.{width, entryAt}
 use Rattle.entries.specs.declared.Entry.{Entry}
-use Rattle.heat.specs.Checks.{entryRule}
+use Rattle.heat.specs.Checks.{entryRule, ruleAt}
 use Rattle.heat.specs.Refusals.{Wrong}
 
 module _ (contexts : ℕ) (e : Entry) where
@@ -38,3 +40,8 @@ module _ (contexts : ℕ) (e : Entry) where
     where
       none : Wrong contexts e → ⊥
       none = is-right k
+
+-- of the entry that was read at i the rule says what it says of i
+pub rule-told : (contexts : ℕ) (list : List ℕ) (i : ℕ) {e : Entry} {b : ℕ} → e ≡ entryAt list (width * i) → b ≡ entryRule contexts e → b ≡ ruleAt contexts list i
+unfolding ruleAt
+rule-told contexts list i q r = r ∙ ap (entryRule contexts) q

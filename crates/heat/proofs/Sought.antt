@@ -11,7 +11,7 @@ use Rattle.site.specs.Site.{Pair}
 use Rattle.entries.specs.Entries.{width, entryAt, entriesFrom, entries}
 use Rattle.entries.specs.declared.Entry.{Entry}
 use Rattle.heat.specs.Cells.{quotient, names, entryFor, cellFor}
-use Rattle.heat.specs.Checks.{entryRule, ruleAt, Positive}
+use Rattle.heat.specs.Checks.{Positive}
 use Rattle.heat.specs.declared.Cell.the-variants.{Blank, Value}
 
 pub record Sought (list : List ℕ) (p : Pair) (n i : ℕ) : Type 0 where
@@ -44,12 +44,6 @@ module _ {list : List ℕ} {p : Pair} {n i : ℕ} (w : Sought list p n i) where
         let next : width * (i + 1) ≡ width * i + width = omega arith in
         record { within = omega arith; same = w .same ∙ rw (one-left, said ∙ t, next) }
 
--- ---- what is told of an entry that was read
-
-module _ (list : List ℕ) (i : ℕ) {e : Entry} (q : e ≡ entryAt list (width * i)) where
-  pub rule-told : (contexts : ℕ) {b : ℕ} → b ≡ entryRule contexts e → b ≡ ruleAt contexts list i
-  unfolding ruleAt
-  rule-told contexts r = r ∙ ap (entryRule contexts) q
-
-  pub union-told : {n : ℕ} → Positive list n → i < n → 0 < e .union
-  union-told c h = rw (ap (λ (e : Entry). e .union) q) (c i h)
+-- an entry that was read has a union
+pub union-told : (list : List ℕ) (i : ℕ) {e : Entry} {n : ℕ} → e ≡ entryAt list (width * i) → Positive list n → i < n → 0 < e .union
+union-told list i q c h = rw (ap (λ (e : Entry). e .union) q) (c i h)

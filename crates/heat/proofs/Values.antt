@@ -8,7 +8,6 @@ use Prim.Native.Nat.{ℕ, _+_, _*_, _/_, _^_, _≤_, _<_, zero-le}
 use native.Mathlib.Nat.{le-antisymm, lt-irrefl, lt-of-lt-of-le, lt-of-not-le, mul-assoc, mul-pos, mul-le-mul, mul-le-mul-right, le-of-mul-le-mul-right, div-mul-le-self, lt-div-mul-add}
 use native.Mathlib.Omega.{arith}
 use lib.Dec.{T, lt→ltb, lit≤}
-use lib.IntN.{pos}
 use lib.Pow.{pow-pos, shl-lt}
 use lib.Ieee.{Float, nan, inf, fin, binary64, up, down, round, size, units, odd, toBits, le, lt}
 use lib.Ieee.Exact.{HasValue, round-exact}
@@ -16,7 +15,7 @@ use lib.Ieee.Order.{round-mono}
 use lib.Ieee.Scale.{round-same}
 use lib.Ieee.Positive.{num, den, den-pos, positive, own-value, positive-of-value, first-pos, values-of-le, between}
 use Rattle.words.proofs.Split.{by-eq, by-le}
-use Rattle.heat.specs.Cells.{quotient}
+use Rattle.heat.specs.Cells.{nought, one, quotient}
 
 -- ---- some values
 
@@ -31,34 +30,34 @@ unfolding quotient round size units odd toBits
 some-bits = refl
 
 -- the least value and the greatest
-ends : (quotient 0 1 ≡ fin false 0 (pos 0)) × (quotient 1 1 ≡ fin false 1 (pos 0))
+ends : (quotient 0 1 ≡ nought) × (quotient 1 1 ≡ one)
 unfolding quotient round size units odd
 ends = (refl, refl)
 
 -- ---- two similarities
 
 -- equal similarities have one value
-pub equal-alike : (s u t v : ℕ) → 0 < u → 0 < v → s * v ≡ t * u → quotient s u ≡ quotient t v
+equal-alike : (s u t v : ℕ) → 0 < u → 0 < v → s * v ≡ t * u → quotient s u ≡ quotient t v
 unfolding quotient
 equal-alike s u t v a b e = round-same binary64 false s u t v a b e
 
 -- a similarity that is no smaller has a value that is no smaller
-pub keeps-order : (s u t v : ℕ) → 0 < u → 0 < v → s * v ≤ t * u → T (le (quotient s u) (quotient t v))
+keeps-order : (s u t v : ℕ) → 0 < u → 0 < v → s * v ≤ t * u → T (le (quotient s u) (quotient t v))
 unfolding quotient
 keeps-order s u t v a b h = round-mono binary64 s u t v a b h
 
 -- all shared is 1.0
-pub whole : (n : ℕ) → 0 < n → quotient n n ≡ fin false 1 (pos 0)
+pub whole : (n : ℕ) → 0 < n → quotient n n ≡ one
 whole n h = equal-alike n n 1 1 h (omega arith) (omega arith) ∙ ends .1
 
 -- nothing shared is 0.0
-nothing : (n : ℕ) → 0 < n → quotient 0 n ≡ fin false 0 (pos 0)
+nothing : (n : ℕ) → 0 < n → quotient 0 n ≡ nought
 nothing n h = equal-alike 0 n 0 1 h (omega arith) (omega arith) ∙ ends .0
 
 -- ---- a scale from 0 to 1
 
 -- a shared and its union, each of 16 bits
-pub record Counts (shared union : ℕ) : Type 0 where
+pub record TwoCounts (shared union : ℕ) : Type 0 where
   pub some : 0 < union
   pub word : union < 2 ^ 16
   pub part : shared ≤ union
@@ -106,7 +105,7 @@ above s u h k l =
     between (quotient 1 steps) (quotient s u) (quotient 1 1) (positive-of-value (quotient 1 steps) 1 steps (held 1 (omega arith)) (omega arith)) (rw (ends .1) tt)
     (keeps-order 1 steps s u (pow-pos 33) (omega arith) (omega arith)) (keeps-order s u 1 1 (omega arith) (omega arith) (omega arith))
 
-module _ {s u : ℕ} (c : Counts s u) where
+module _ {s u : ℕ} (c : TwoCounts s u) where
   some-shared : 0 < s → T (positive (quotient s u))
   some-shared h = above s u h (c .part) (omega arith)
 
@@ -128,7 +127,7 @@ module _ {s u : ℕ} (c : Counts s u) where
 
 -- ---- two similarities that differ
 
-module _ {s u t v : ℕ} (a : Counts s u) (b : Counts t v) (h : s * v < t * u) where
+module _ {s u t v : ℕ} (a : TwoCounts s u) (b : TwoCounts t v) (h : s * v < t * u) where
   below : num (quotient s u) * den (quotient t v) < num (quotient t v) * den (quotient s u)
   below =
       let few : u * v ≤ 65535 * 65535 = mul-le-mul {n₂ = 65535} {m₂ = 65535} (omega arith) (omega arith) in
@@ -145,7 +144,7 @@ module _ {s u t v : ℕ} (a : Counts s u) (b : Counts t v) (h : s * v < t * u) w
   differ e = lt-irrefl (num (quotient t v) * den (quotient t v)) (rw e at below)
 
 -- two values are equal exactly if the similarities are
-pub apart : {s u t v : ℕ} → Counts s u → Counts t v → (quotient s u ≡ quotient t v) ↔ (s * v ≡ t * u)
+pub apart : {s u t v : ℕ} → TwoCounts s u → TwoCounts t v → (quotient s u ≡ quotient t v) ↔ (s * v ≡ t * u)
 apart {s} {u} {t} {v} a b = (
   λ e. by-le (s * v) (t * u) (λ l. by-le (t * u) (s * v) (le-antisymm l) (λ g. absurd (differ a b g e))) (λ g. absurd (differ b a g (sym e))),
   equal-alike s u t v (a .some) (b .some),
@@ -153,13 +152,13 @@ apart {s} {u} {t} {v} a b = (
 
 -- ---- one similarity
 
-module _ {s u : ℕ} (c : Counts s u) where
+module _ {s u : ℕ} (c : TwoCounts s u) where
   -- where something is shared the value is above 0.0
-  pub above-zero : 0 < s → T (lt (fin false 0 (pos 0)) (quotient s u))
+  pub above-zero : 0 < s → T (lt (nought) (quotient s u))
   above-zero h =
-      let none : Counts 0 1 = record { some = omega arith; word = omega arith; part = omega arith } in
+      let none : TwoCounts 0 1 = record { some = omega arith; word = omega arith; part = omega arith } in
       rw (ends .0) at (keeps-apart none c (omega arith))
 
   -- and it is never above 1.0
-  pub up-to-one : T (le (quotient s u) (fin false 1 (pos 0)))
+  pub up-to-one : T (le (quotient s u) (one))
   up-to-one = rw (ends .1) at (keeps-order s u 1 1 (c .some) (omega arith) (omega arith))

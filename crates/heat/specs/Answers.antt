@@ -1,15 +1,13 @@
 -- The answer of a call for one cell, as an equation (`cellOf`), and the same of a call in the paper's words (`Shows`).
-use mathlib.Core.Bool.{false}
 use mathlib.Core.List.{List, [], _∷_}
 use mathlib.Core.Path.{_≡_}
 use Prim.Native.Nat.{ℕ}
-use lib.IntN.{pos}
-use lib.Ieee.{Float, fin}
+use lib.Ieee.{Float}
 use Rattle.tables.specs.declared.Check.{Check}
 use Rattle.tables.specs.declared.Check.the-variants as check
 use Rattle.entries.specs.Entries.{entries}
 use Rattle.entries.specs.declared.Entry.{Entry}
-use Rattle.heat.specs.Cells.{cellIn}
+use Rattle.heat.specs.Cells.{nought, cellIn}
 use Rattle.heat.specs.Checks.{cellCheck}
 use Rattle.heat.specs.declared.Cell.{Cell}
 use Rattle.heat.specs.declared.Cell.the-variants as cell
@@ -33,15 +31,11 @@ cellValues (answer.Refused number place) = place ∷ []
 abbrev pub CellTells : CellAnswer → ℕ → List ℕ → Type 0
 CellTells r number values = (cellNumber r ≡ number) × (cellValues r ≡ values)
 
--- 0.0
-abbrev pub noValue : Float
-noValue = fin false 0 (pos 0)
-
 -- the value of its cell, and 0.0 where there is none
 unfoldable pub cellValue : CellAnswer → Float
-cellValue (answer.Cell cell.Blank) = noValue
+cellValue (answer.Cell cell.Blank) = nought
 cellValue (answer.Cell (cell.Value v)) = v
-cellValue (answer.Refused number place) = noValue
+cellValue (answer.Refused number place) = nought
 
 -- ---- the answer
 

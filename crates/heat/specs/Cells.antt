@@ -4,7 +4,8 @@ use mathlib.Core.List.{List}
 use mathlib.Core.Option.{Option, none, some}
 use Prim.Native.Nat.{ℕ, min, max}
 use lib.Dec.{eqb}
-use lib.Ieee.{Float, binary64, round}
+use lib.IntN.{pos}
+use lib.Ieee.{Float, fin, binary64, round}
 use Rattle.order.specs.Order.{keep, kth}
 use Rattle.site.specs.Site.{Pair}
 use Rattle.site.specs.declared.Context.{Context}
@@ -13,6 +14,13 @@ use Rattle.heat.specs.declared.Cell.{Cell}
 use Rattle.heat.specs.declared.Cell.the-variants.{Blank, Value}
 
 -- ---- the value
+
+-- 0.0 and 1.0
+abbrev pub nought : Float
+nought = fin false 0 (pos 0)
+
+abbrev pub one : Float
+one = fin false 1 (pos 0)
 
 -- shared divided by union, as an f64 and not negative: the f64 nearest to the fraction, and of two as near the even one.
 -- `round` is given the two counts themselves, so there is one rounding.

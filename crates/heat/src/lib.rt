@@ -13,7 +13,7 @@ use entries::entry_at;
 use site::Context;
 use tables::Check;
 
-// A cell of the map: blank, or how alike two contexts are.
+// A cell of the map: blank, or shared / union of two contexts.
 pub enum Cell {
     Blank,
     Value(f64),

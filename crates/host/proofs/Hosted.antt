@@ -2,12 +2,12 @@
 use mathlib.Core.List.{List}
 use mathlib.Core.Path.{_≡_, refl, ap, _∙_}
 use Prim.Native.Nat.{ℕ, _+_}
+use lib.Ieee.{Float}
 use Rattle.sheet.specs.Read.{Read, value, refused}
 use Rattle.listing.specs.Answers.{listingBy}
 use Rattle.listing.specs.Calls.{Lists}
 use Rattle.listing.specs.declared.Listing.{Listing}
 use Rattle.listing.specs.declared.Listing.the-variants.{Text, Refused}
-use lib.Ieee.{Float}
 use Rattle.heat.specs.Answers.{cellOf, cellValue}
 use Rattle.heat.specs.declared.CellAnswer.{CellAnswer}
 use Rattle.host.specs.Call.{hostValue, Hosts, hostCell, HostsCell}

@@ -1,6 +1,6 @@
--- the library's answer as the host's value
+-- the library's answers as the host's values
 pub mod Hosted
--- what the contract says, and one answer only
+-- what the contracts say, and one answer only
 pub mod Only
--- the host call says what the library's call says
+-- the host calls say what the library's calls say
 pub mod Same

@@ -3,8 +3,8 @@
 use mathlib.Core.List.{List}
 use mathlib.Core.Path.{sym, _∙_}
 use Prim.Native.Nat.{ℕ}
-use Rattle.words.proofs.OneAnswer.{Says, OneAnswer}
 use lib.Ieee.{Float}
+use Rattle.words.proofs.OneAnswer.{Says, OneAnswer}
 use Rattle.host.specs.Call.{Hosts, HostsCell}
 use Rattle.host.proofs.sazamkhri_listing.Kinds as sazamkhri-listing-kinds
 use Rattle.host.proofs.sazamkhri_listing.Reads as sazamkhri-listing

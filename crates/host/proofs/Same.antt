@@ -23,7 +23,7 @@ use Rattle.heat.proofs.cell_of.Kinds as cell-of-kinds
 use Rattle.heat.proofs.cell_of.Reads as cell-of
 use Rattle.host.specs.Call.{hostValue, Hosts, hostCell}
 use Rattle.host.proofs.Hosted.{hostValueBy, value-same}
-use Rattle.host.proofs.Only.{sazamkhri-listing-says}
+use Rattle.host.proofs.Only.{sazamkhri-listing-says, sazamkhri-cell-says}
 use Rattle.host.proofs.sazamkhri_listing.Kinds as sazamkhri-listing-kinds
 use Rattle.host.proofs.sazamkhri_listing.Reads as sazamkhri-listing
 use Rattle.host.proofs.sazamkhri_cell.Kinds as sazamkhri-cell-kinds
@@ -68,4 +68,5 @@ pub host-cells : (κs : Lfts 1) (κs′ : Lfts 2) (a : Dens κs cell-of-kinds.ps
     → cell-of.Post κs a r x → sazamkhri-cell.Post κs′ b v y → (v ≡ hostCell r) × (y .1 .1 .1 .1 .1 .0 .now ≡ cellValue r)
 host-cells κs κs′ a b r v x y n l e f s p q =
     let same = sym (p ∙ λ i. cellOf (n i) (l i) (e i) (f i) (s i)) in
-    (q .kind-is ∙ ap hostCell same, q .value-is ∙ ap cellValue same)
+    let h = sazamkhri-cell-says κs′ b v y q in
+    (h .kind-is ∙ ap hostCell same, h .value-is ∙ ap cellValue same)

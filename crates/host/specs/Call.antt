@@ -2,12 +2,12 @@
 use mathlib.Core.List.{List}
 use mathlib.Core.Path.{_≡_}
 use Prim.Native.Nat.{ℕ, _+_}
+use lib.Ieee.{Float}
 use lib.ListN.{length}
 use Rattle.words.specs.Words.{padded}
 use Rattle.sheet.specs.Read.{Read, value, refused}
 use Rattle.listing.specs.Listing.{listingIn}
 use Rattle.listing.specs.Answers.{bytesOf}
-use lib.Ieee.{Float}
 use Rattle.heat.specs.Answers.{cellOf, cellValue}
 use Rattle.heat.specs.declared.Cell.the-variants as cell
 use Rattle.heat.specs.declared.CellAnswer.{CellAnswer}

@@ -1,2 +1,2 @@
--- the call's contract
+-- the contracts of the calls
 pub mod Call

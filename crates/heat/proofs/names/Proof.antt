@@ -1,4 +1,4 @@
--- `heat::names` meets its contract: each return is an arm of `names`.
+-- `heat::names` meets its contract: each return is what `names` says.
 use Rattle.heat.specs.Cells.{names}
 use Rattle.words.proofs.Tests.{tests}
 use Rattle.heat.proofs.names.Statement.{statement}
