@@ -84,11 +84,12 @@ static int number(struct text *text, const char *before, uint16_t *value) {
     return text->at > first && sum <= UINT16_MAX;
 }
 
-/* The number of contexts, from a sheet that was listed. */
+/* The number of contexts: a sheet that was listed has a line for it, behind its first. */
 static int read_contexts(struct text sheet, struct map *map) {
-    uint16_t k;
-    return number(&sheet, "k=", &k) && number(&sheet, "\ncontexts=", &map->contexts) && letters(&sheet, "\n") &&
-           map->contexts <= CONTEXTS;
+    while (sheet.at < sheet.end && !letters(&sheet, "\ncontexts=")) {
+        sheet.at++;
+    }
+    return number(&sheet, "", &map->contexts) && letters(&sheet, "\n") && map->contexts <= CONTEXTS;
 }
 
 /* The entries of the list, from the lines `pair=` of a listing. */

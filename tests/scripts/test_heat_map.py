@@ -546,9 +546,11 @@ class StandIns(Case):
         """A listing of another form is a fault; so is a number of contexts that no listed sheet has."""
         program, good = self.listing(), "k=1\nfound=1\nevents=0\nmet=0\npair=0 1 1 2\n"
         sheet = b"k=1\ncontexts=2\nc=\nc=\n"
-        done = run(program, sheet=sheet, env={"LISTING": good})
-        self.assertEqual([tooltip for _, _, tooltip in self.painted(done, 2).cells()],
-                         [["contexts 0 and 1: 0.5"], ["contexts 1 and 0: 0.5"]])
+        # The number of contexts stands in the first line that begins so, also if another is in between.
+        for other in (sheet, sheet.replace(b"k=1\n", b"k=1\nmore=contexts=9\n") + b"\ncontexts=3\n"):
+            done = run(program, sheet=other, env={"LISTING": good})
+            self.assertEqual([tooltip for _, _, tooltip in self.painted(done, 2).cells()],
+                             [["contexts 0 and 1: 0.5"], ["contexts 1 and 0: 0.5"]], "the number of contexts")
         bad = [good[:-1], good + "pair=0 1 1 2\n", good + "x", good.replace("found=1", "found=2"), "",
                good.replace("found=1", "found=65"), good.replace("found=1", "found=0"), good.replace("k=1", "k="),
                good.replace("met", "Met"), good.replace("1 2\n", "1 ").ljust(2048, "0")]
@@ -557,7 +559,7 @@ class StandIns(Case):
         for listing in bad:
             self.fault(run(program, sheet=sheet, env={"LISTING": listing}), "not of the form", listing)
         for other in (b"", b"k=1", b"k=1\ncontexts=", b"k=1\ncontexts=2", b"k=1\ncontexts=257\n", b"k=1\ncontexts=x\n",
-                      b"k=1\ncontexts=65538\n", b"k=\ncontexts=2\n", b"k=1\ncontexts=4294967298\n"):
+                      b"k=1\ncontexts=65538\n", b"k=1\ncontext=2\n", b"k=1\ncontexts=4294967298\n"):
             self.fault(run(program, sheet=other, env={"LISTING": good}), "not of the form", other)
         # The list names context 1, so with one context the cell is refused.
         done = run(program, sheet=b"k=1\ncontexts=1\nc=\n", env={"LISTING": good})
