@@ -362,10 +362,13 @@ picture_mistakes() {
 }
 
 answer_mistakes() {
-    in_heat_map 's/answer != SAZAMKHRI_VALUE\)/answer > 2000000)/' "a refused cell left blank" "Tuples differ: \(0, " \
-        StandIns.test_a_refused_cell_is_never_painted
+    local tests=StandIns.test_an_odd_answer_is_never_painted
+    in_heat_map 's/answer != SAZAMKHRI_VALUE\)/answer > 2000000)/' "a refused cell left blank" "Tuples differ: \(0, " $tests
     in_heat_map '/^static int ask\(/,/^}/s/return 0;/return 1;/' "a refused cell told, and painted" \
-        "Tuples differ: \(0, " StandIns.test_a_refused_cell_is_never_painted
+        "Tuples differ: \(0, " $tests
+    in_heat_map 's/answer >= SAZAMKHRI_REFUSED/answer > 1/' "another answer told as a refusal" "which no cell has" $tests
+    in_heat_map 's/answer >= SAZAMKHRI_REFUSED/answer > SAZAMKHRI_REFUSED/' "a refusal told as another answer" \
+        "is refused" $tests
     in_heat_map 's/if \(!ask\(map/if (cell % (map->contexts + 1) != 0 \&\& !ask(map/' "the diagonal not asked for" \
         "cells that are asked for" StandIns.test_every_cell_is_asked_for_once
     in_heat_map 's/return well && .*/return well;/' "more behind a listing" "AssertionError" \

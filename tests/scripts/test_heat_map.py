@@ -468,9 +468,11 @@ NOTED = """
     fprintf(stderr, "\\n");
     *value = 0;
     return 0;"""
-REFUSING = """
+ODD = """
+    unsigned long row, column, answer;
     *value = 0.5;
-    return first == ROW && second == COLUMN ? ANSWER : (uint64_t)(first == 0 && second == 1);"""
+    sscanf(getenv("ODD"), "%lu %lu %lu", &row, &column, &answer);
+    return first == row && second == column ? answer : (uint64_t)(first == 0 && second == 1);"""
 LISTING = """
     const char *from = getenv("LISTING");
     (void)sheet, (void)sheet_len;
@@ -534,13 +536,15 @@ class StandIns(Case):
         done = run(self.cell("*value = 1; return 1;"), sheet=sheet_of([set()] * 256, 1))
         self.assertEqual(len({place for place, _, _ in self.painted(done, 256).cells()}), 65536)
 
-    def test_a_refused_cell_is_never_painted(self):
-        for row, column, answer, words in ((0, 0, 1000013, r"\(13\): there is no context"),
-                                           (2, 1, 1000017, r"\(17\): the list"), (2, 2, 1000099, r"\(99\): .*not know"),
-                                           (1, 2, 2, "not know")):
-            program = self.cell(REFUSING, f"-DROW={row}", f"-DCOLUMN={column}", f"-DANSWER={answer}")
-            done = run(program, sheet=(EXAMPLES / "three.sheet").read_bytes())
-            self.fault(done, f"contexts {row} and {column} is refused {words}" if answer > 2 else words, answer)
+    def test_an_odd_answer_is_never_painted(self):
+        program, sheet = self.cell(ODD), (EXAMPLES / "three.sheet").read_bytes()
+        for row, column, answer, words in (
+            (0, 0, 1000013, r"is refused \(13\): there is no context"), (2, 1, 1000017, r"is refused \(17\): the list"),
+            (2, 2, 1000099, r"is refused \(99\): .*not know"), (1, 1, 1000000, r"is refused \(0\): .*not know"),
+            (1, 2, 2, "has the answer 2, which no cell has"), (2, 0, 999999, "has the answer 999999, which no cell has"),
+        ):
+            done = run(program, sheet=sheet, env={"ODD": f"{row} {column} {answer}"})
+            self.fault(done, f"the cell of contexts {row} and {column} {words}", answer)
 
     def test_listings_that_never_are(self):
         """A listing of another form is a fault; so is a number of contexts that no listed sheet has."""
