@@ -153,9 +153,11 @@ check_mistakes() {
     in_check 's/0x3FEFAEE41E6A7498/0x3FEFAEE41E6A7499/' "another last bit expected" "100 codes shared of 101 .*WRONG"
     in_check 's/CELL_MEASURED = [0-9]+/CELL_MEASURED = 16/' "less stack for a cell said to be measured" \
         "the most of all cells .*WRONG"
+    in_check '/^static void \*call_cell/,/^}/s/told == /told != /' "another answer expected where stack is measured" \
+        "the most of all cells .*WRONG"
     in_check 's/_MM_ROUND_UP, 0x6/_MM_ROUND_UP, 0x5/' "another way to round expected" "rounded up .*WRONG"
     in_header 's/(SAZAMKHRI_STACK) 49152/\1 30000/' "too little stack promised" "16 codes.* 30[0-9]* WRONG"
-    in_header 's/(CELL_STACK) 1024/\1 16/' "too little stack for a cell promised" "the most of all cells .*WRONG"
+    in_header 's/(CELL_STACK) 1024/\1 16/' "too little stack for a cell promised" "Segmentation fault"
     in_header 's/(NOT_RISING =) 5/\1 15/' "a wrong number in the header" "a code twice .*WRONG"
     in_header 's/(NO_SUCH_CONTEXT =) 13/\1 14/' "a wrong number for a cell" "there are no contexts .*WRONG"
     in_header 's/(LIST_BROKEN =) 17/\1 16/' "a wrong number for a list" "an entry too many .*WRONG"
@@ -208,6 +210,10 @@ cell_answer_mistakes() {
     in_cell "the value kept for a refusal" 'if (told > 1) *value = before;' "there are no contexts .*WRONG"
     in_cell "the value kept for a blank cell" 'if (told == 0) *value = before;' "a context against itself .*WRONG"
     in_cell "a blank cell with -0.0" 'if (told == 0) *value = -0.0;' "a context against itself .*WRONG"
+    in_cell "a blank cell with -0.0 on one map" 'if (told == 0 && contexts == 112) *value = -0.0;' \
+        "112 contexts, two of them with over 48 codes .*WRONG"
+    in_cell "-0.0 where a long list is refused" 'if (told == 1000017 && entries == 65534) *value = -0.0;' \
+        "entries, if it is wrong .*WRONG"
     in_cell "a value rounded twice" '*value = (float)*value;' "1 code shared of 3 .*WRONG"
     in_cell "the value the other way up" 'if (told == 1) *value = 1 / *value;' "a listed pair .*WRONG"
     in_cell "one order alone" 'if (told == 1 && first > second) { told = 0; *value = 0.0; }' "a listed pair .*WRONG"
