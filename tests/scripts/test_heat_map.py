@@ -14,7 +14,7 @@ import shlex
 import subprocess
 import tempfile
 import unittest
-from collections import namedtuple
+from collections import Counter, namedtuple
 from fractions import Fraction
 from itertools import combinations, product
 from pathlib import Path
@@ -219,6 +219,11 @@ class Case(unittest.TestCase):
         self.assertEqual((done.returncode, done.stderr), (0, b""))
         return Picture(done.stdout.decode("ascii"), contexts)
 
+    def same_things(self, found, due, name):
+        """The same things as often, in any order. A few that differ are named: to show how long lists differ is slow."""
+        found, due = Counter(found), Counter(due)
+        self.assertEqual((list(found - due)[:3], list(due - found)[:3]), ([], []), name)
+
     def ramp(self, colours):
         """Colours by value: never white, never lighter for a greater value, and darker for one that is 0.01 greater."""
         values, apart = sorted(colours), []
@@ -273,7 +278,7 @@ class Pictures(Case):
     @of_each_picture
     def test_cells(self, picture, due):
         cells = list(picture.cells())
-        self.assertEqual(sorted(place for place, _, _ in cells), sorted(due.cells), "the cells that are coloured")
+        self.same_things((place for place, _, _ in cells), due.cells.keys(), "the cells that are coloured")
         for place, _, tooltip in cells:
             self.assertNotEqual(*place, "a context against itself")
             value = due.cells[place]
@@ -317,7 +322,7 @@ class Pictures(Case):
         lines = re.findall(r"M(\d+) (\d+)([hv])(\d+)", grid)
         borders = [at * picture.cell for at in range(1, due.contexts)]
         wanted = [(x, y + at, "h", side) for at in borders] + [(x + at, y, "v", side) for at in borders]
-        self.assertEqual(sorted((int(a), int(b), way, int(c)) for a, b, way, c in lines), sorted(wanted), "the grid")
+        self.same_things(((int(a), int(b), way, int(c)) for a, b, way, c in lines), wanted, "the grid")
         self.assertEqual(re.sub(r"M\d+ \d+[hv]\d+|\s", "", grid), "")
 
     @of_each_picture
@@ -519,7 +524,7 @@ class StandIns(Case):
             words = "".join(f" {word}" for entry in entries for word in entry)
             wanted = [f"{len(site)} {4 * len(entries)} {len(entries)} {row} {column}:{words}"
                       for row, column in product(range(len(site)), repeat=2)]
-            self.assertEqual(sorted(done.stderr.decode().splitlines()), sorted(wanted), "the cells that are asked for")
+            self.same_things(done.stderr.decode().splitlines(), wanted, "the cells that are asked for")
             self.assertEqual(list(Picture(done.stdout.decode(), len(site)).cells()), [])
 
     def test_every_answer_is_painted_at_its_place(self):
