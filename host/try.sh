@@ -1,30 +1,35 @@
 #!/usr/bin/env bash
-# Tries the checks of host/test.sh on mistakes: each is planted in a copy, and the check must notice, and say what.
+# Tries the checks of the C programmer's side on mistakes: those of host/test.sh (the calls, the program that lists, the
+# library as a file, README's lines, the installer), and tests/scripts/test_heat_map.py, which tries the picture's
+# program. Each mistake is planted in a copy, and the check must notice, and say what.
 #
-#     host/try.sh
+#     host/try.sh [GROUP..]
 #
-# Exits with 1 if a mistake goes unnoticed, or if a check refuses the copy as it is. The library comes first:
-# scripts/build.py host.
+# A group is one of the functions called .._mistakes, or as_they_are. Without names all are tried, as many at a time as
+# there are processors. Exits with 1 if a mistake goes unnoticed, or if a check refuses the copy as it is. The library
+# comes first: scripts/build.py host.
 set -eu -o pipefail
 cd "$(dirname "$0")/.."
+# A second function of one name would take the place of the first, without a word.
+twice=$(sed -n -E 's/^ *(function +)?([A-Za-z0-9_]+) *\(\).*/\2/p' host/try.sh | sort | uniq -d)
+[ -z "$twice" ] || { echo "host/try.sh: defined twice: $twice"; exit 1; }
 host/library.sh
-real=$PWD
 CC=${CC:-cc}
 copy=$(mktemp -d)
 trap 'rm -rf "$copy"' EXIT
 tried=0 wrong=0
 export KINDS=plain LC_ALL=C
 
-# The part of the project that the checks look at, as it is.
+# The part of the project that the checks look at, as it is. There, nothing is to be proved: the library lies ready.
 fresh() {
-    rm -rf "$copy/host" "$copy/target"
-    mkdir -p "$copy/target/staticlib"
-    cp -r host "$copy/host"
-    cp README.md "$copy/README.md"
-    cp Makefile "$copy/Makefile"
-    cp target/staticlib/libhost.a "$copy/target/staticlib/libhost.a"
-    ln -s -f -n "$real/examples" "$copy/examples"
-    ln -s -f -n "$real/crates" "$copy/crates"
+    rm -rf "${copy:?}"/*
+    mkdir -p "$copy/target/staticlib" "$copy/docs" "$copy/tests/scripts"
+    cp -r host examples scripts README.md Makefile "$copy"
+    cp docs/LESSON.md "$copy/docs"
+    cp tests/scripts/test_heat_map.py "$copy/tests/scripts"
+    cp target/staticlib/libhost.a "$copy/target/staticlib"
+    printf '#!/bin/sh\n' > "$copy/scripts/build.py"
+    ln -s "$PWD/crates" "$copy/crates"
 }
 
 # The checks, each on the copy.
@@ -32,6 +37,7 @@ programs() { PROGRAMS=list_sheet "$copy/host/build.sh" && "$copy/host/check-prog
 calls() { PROGRAMS=check "$copy/host/build.sh" && "$copy/target/host/check"; }
 archives() { "$copy/host/library.sh" && "$copy/host/check-archive.sh"; }
 installs() { "$copy/host/check-install.sh" "$@"; }
+pictures() { PROGRAMS=heat_map "$copy/host/build.sh" && python3 "$copy/tests/scripts/test_heat_map.py" "$@"; }
 
 # as_it_is CHECK..: the check passes the copy without a mistake.
 as_it_is() {
@@ -115,6 +121,9 @@ in_call() { library listing "$1" "$(with "$2")" "" "$3" calls; }
 in_cell() { library cell "$1" "$(cell_with "$2")" "" "$3" calls; }
 in_archive() { library listing "$1" "$(with "$2")${5-}" "$3" "$4" archives; }
 in_readme() { plant README.md "$1" "README: $2" "$3" installs c99; }
+in_heat_map() { plant host/heat_map.c "$1" "$2" "$3" pictures "${@:4}"; }
+in_picture_of() { plant "$1" "$2" "$3" "$4" pictures "${@:5}"; }
+in_make_heat() { plant Makefile "$2" "make heat: $3" "$4" pictures "Make.$1"; }
 
 list_sheet_mistakes() {
     in_sheet_file 's/return REFUSED;/return DONE;/' "status 0 for a refusal" "status 0, not 1"
@@ -304,20 +313,7 @@ install_mistakes() {
     plant host/sazamkhri.pc.in 's/@VERSION@/0.9/' "another version" "version of pkg-config: 0.9" installs staged
 }
 
-# pictures TEST..: tries the heat map in the copy. There, nothing is to be proved: the library lies ready.
-pictures() {
-    mkdir -p "$copy/tests/scripts" "$copy/scripts"
-    cp tests/scripts/test_heat_map.py "$copy/tests/scripts/test_heat_map.py"
-    cp scripts/*.py "$copy/scripts/"
-    printf '#!/bin/sh\n' > "$copy/scripts/build.py"
-    PROGRAMS=heat_map "$copy/host/build.sh" && python3 "$copy/tests/scripts/test_heat_map.py" "$@"
-}
-
-# in_heat_map EDIT MISTAKE WORDS TEST..: one edit in the picture's program, for these tests.
-in_heat_map() { plant host/heat_map.c "$1" "$2" "$3" pictures "${@:4}"; }
-in_make_heat() { plant Makefile "$1" "make heat: $2" "$3" pictures Make; }
-
-cell_mistakes() {
+painted_cell_mistakes() {
     local coloured="cells that are coloured" tests=Pictures.test_cells
     in_heat_map 's/(answer == SAZAMKHRI_VALUE)\)/\1 \&\& row < column)/' "cells one way round" "$coloured" $tests
     in_heat_map 's/TOP \+ cell->row \*/TOP + (cell->row + 1) */' "rows off by one" "$coloured" $tests
@@ -394,33 +390,53 @@ answer_mistakes() {
 
 # shellcheck disable=SC2016
 make_heat_mistakes() {
-    in_make_heat '/^heat:/,/^$/{/Which sheet/d}' "no words where no sheet is named" "what is said"
-    in_make_heat '/^heat:/,/^$/{/scripts\/list.py/d}' "no words for a missing sheet" "what is said"
-    in_make_heat 's/\[ "\$\$SHEET" = - \] \|\| set --/set --/' "no standard input" " : make heat$"
-    in_make_heat 's/(host\/build.sh) > \/dev\/null/\1/' "words before the picture" " : make heat$"
-    in_make_heat 's/heat_map "\$\$@"/heat_map $$@/' "names cut at spaces" "two words"
-    in_make_heat '/^heat:/,/^$/{s/-ne 1 \]/-ne 3 ]/}' "no word of make list" "what is said"
-    in_make_heat 's/^#: make heat/# make heat/' "no line in the help" "test_help"
+    in_make_heat test_no_sheet '/^heat:/,/^$/{/Which sheet/d}' "no words where no sheet is named" "what is said"
+    in_make_heat test_no_sheet '/^heat:/,/^$/{/scripts\/list.py/d}' "no words for a missing sheet" "what is said"
+    in_make_heat test_the_picture_and_nothing_else 's/\[ "\$\$SHEET" = - \] \|\| set --/set --/' "no standard input" \
+        " : make heat$"
+    in_make_heat test_the_picture_and_nothing_else 's/(host\/build.sh) > \/dev\/null/\1/' "words before the picture" \
+        " : make heat$"
+    in_make_heat test_names_that_shells_and_make_could_misread 's/heat_map "\$\$@"/heat_map $$@/' "names cut at spaces" \
+        "two words"
+    in_make_heat test_refused '/^heat:/,/^$/{s/-ne 1 \]/-ne 3 ]/}' "no word of make list" "what is said"
+    in_make_heat test_help 's/^#: make heat/# make heat/' "no line in the help" "test_help"
 }
 
-as_it_is programs
-as_it_is calls
-as_it_is archives
-as_it_is installs
-as_it_is pictures
-list_sheet_mistakes
-check_mistakes
-call_mistakes
-cell_mistakes
-cell_answer_mistakes
-cell_check_mistakes
-archive_mistakes
-readme_mistakes
-install_mistakes
-cell_mistakes
-colour_mistakes
-picture_mistakes
-answer_mistakes
-make_heat_mistakes
-echo "mistakes in C and around it: $tried tried, $wrong problems"
-[ "$wrong" -eq 0 ]
+as_they_are() {
+    as_it_is programs
+    as_it_is calls
+    as_it_is archives
+    as_it_is installs
+    as_it_is pictures
+}
+
+# groups: all that can be tried, by name.
+groups() { declare -F | sed -n -E 's/^declare -f (as_they_are|.*_mistakes)$/\1/p'; }
+
+# some GROUP..: tries these, and says how it went.
+some() {
+    local group
+    for group in "$@"; do
+        groups | grep -q -x -e "$group" || { echo "$group: no group of mistakes"; exit 2; }
+        "$group"
+    done
+    echo "$*: $tried tried, $wrong problems"
+    [ "$wrong" -eq 0 ]
+}
+
+# all: tries every group by itself, several at a time, and adds up. A group that does not come to its end is a problem.
+all() {
+    local group last
+    # shellcheck disable=SC2016
+    groups | xargs -P "$(nproc)" -I GROUP sh -c 'host/try.sh GROUP > "$0/GROUP" 2>&1 || true' "$copy"
+    for group in $(groups); do
+        cat "$copy/$group"
+        last=$(tail -n 1 "$copy/$group")
+        [[ $last =~ ^$group:\ ([0-9]+)\ tried,\ ([0-9]+)\ problems$ ]] || { wrong=$((wrong + 1)); continue; }
+        tried=$((tried + BASH_REMATCH[1])) wrong=$((wrong + BASH_REMATCH[2]))
+    done
+    echo "mistakes in C and around it: $tried tried, $wrong problems"
+    [ "$wrong" -eq 0 ] && [ "$tried" -gt 0 ]
+}
+
+if [ $# -gt 0 ]; then some "$@"; else all; fi
