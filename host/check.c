@@ -532,8 +532,9 @@ static void threads(const char *name, void *(*work)(void *)) {
 
 #if !defined(SANITIZED)
 /*
- * What the header says was measured: of a listing to a kilobyte, and what a cell stays under. The guard is so large that no call
- * steps over it. The thread library is told of a part of it as if it were stack, since it takes none that is so small.
+ * What the header says was measured: of a listing to a kilobyte, and what a cell stays under. The guard is so large
+ * that no call steps over it. The thread library is told of a part of it as if it were stack, since it takes none that
+ * is so small.
  */
 enum {
     TEXT = SAZAMKHRI_LISTING_LIMIT,

@@ -365,10 +365,12 @@ picture_mistakes() {
 
 answer_mistakes() {
     local tests=StandIns.test_an_odd_answer_is_never_painted
-    in_heat_map 's/answer != SAZAMKHRI_VALUE\)/answer > 2000000)/' "a refused cell left blank" "Tuples differ: \(0, " $tests
+    in_heat_map 's/answer != SAZAMKHRI_VALUE\)/answer > 2000000)/' "a refused cell left blank" \
+        "Tuples differ: \(0, " $tests
     in_heat_map '/^static int ask\(/,/^}/s/return 0;/return 1;/' "a refused cell told, and painted" \
         "Tuples differ: \(0, " $tests
-    in_heat_map 's/answer >= SAZAMKHRI_REFUSED/answer > 1/' "another answer told as a refusal" "which no cell has" $tests
+    in_heat_map 's/answer >= SAZAMKHRI_REFUSED/answer > 1/' "another answer told as a refusal" \
+        "which no cell has" $tests
     in_heat_map 's/answer >= SAZAMKHRI_REFUSED/answer > SAZAMKHRI_REFUSED/' "a refusal told as another answer" \
         "is refused" $tests
     in_heat_map 's/if \(!ask\(map/if (cell % (map->contexts + 1) != 0 \&\& !ask(map/' "the diagonal not asked for" \
@@ -381,11 +383,49 @@ answer_mistakes() {
         StandIns.test_listings_that_never_are
     in_heat_map 's/\(size_t\)\(text->end - text->at\) < length \|\| //' "letters read past the end" "AddressSanitizer" \
         StandIns.test_listings_that_never_are
+    in_heat_map 's/sheet\.at < sheet\.end && //' "a sheet read past its end" "AddressSanitizer" \
+        StandIns.test_listings_that_never_are
+    in_heat_map 's/"\\ncontexts=/"contexts=/' "contexts from within a line" "a cell with the size" \
+        StandIns.test_listings_that_never_are
+    in_heat_map 's/ && map->contexts <= CONTEXTS//' "more contexts than fit" "AssertionError" \
+        StandIns.test_listings_that_never_are
+    in_heat_map 's/cells\[CONTEXTS \* CONTEXTS\]/cells[2 * PAIRS]/' "room for the cells of a listing alone" \
+        "AddressSanitizer" StandIns.test_the_largest_square_in_one_colour
     in_heat_map 's/return DONE;/return REFUSED;/' "status 1 for a picture" "status 1" Pictures.test_form
     in_heat_map 's/return (refused\(.*)/\1 return DONE;/' "status 0 for a refusal" "a refused sheet" \
         Streams.test_refused_sheets
     in_heat_map 's/ferror\(stdout\) \|\| fflush\(stdout\) != 0/0/' "no look at the full disk" "a fault" \
         Streams.test_cannot_be_written
+}
+
+# in_sheet_of EDIT MISTAKE WORDS TEST: what all example programs have in common, for a test of the picture's streams.
+in_sheet_of() { in_picture_of host/sheet_file.h "$1" "$2" "$3" "Streams.$4"; }
+
+stream_mistakes() {
+    in_sheet_of 's/LIMIT \+ 1\]/LIMIT]/' "a long sheet cut off" "a refused sheet|Regex didn't match" test_odd_sheets
+    in_sheet_of 's/argc > 2/argc > 3/' "two arguments taken" "a fault" test_cannot_be_read
+    in_sheet_of 's/ferror\(from\)/0/' "no look at what was read" "a fault" test_cannot_be_read
+    in_sheet_of 's/argc == 2 \?/argc == 2 \&\& strcmp(argv[1], "-") != 0 ?/' "a file called - not read" " : -$" \
+        test_names_that_files_have
+    in_sheet_of 's/<stdio.h>/<unistd.h>\n#include &/; s/fread\(.*from\)/argc > 1 ? & : (size_t)read(0, sheet, 9999)/' \
+        "a slow pipe read in part" "Tuples differ: \(1, " test_file_input_and_slow_pipe
+    in_heat_map 's/<stdlib.h>/<unistd.h>\n#include &/; s/printf\("<desc>/printf("<!-- %d -->", getpid());\n&/' \
+        "other bytes in every run" "test_every_run" Pictures.test_every_run_gives_the_same_bytes
+}
+
+# What the lesson says of its pictures, and the sheets that the tests make.
+told_mistakes() {
+    local lesson=docs/LESSON.md sheet=examples/cemetery.sheet said="what the lesson says"
+    in_picture_of $lesson 's/, 20 coloured/, 21 coloured/' "another count in the lesson" "$said" Lesson
+    in_picture_of $lesson 's/other 45 stay/other 44 stay/' "another rest in the lesson" "$said" Lesson
+    in_picture_of $lesson 's/missing: 7 and 10/missing: 7 and 11/' "another pair in the lesson" "$said" Lesson
+    in_picture_of $lesson 's/^for 9\. And/for 8. And/' "another dark cell in the lesson" "$said" Lesson
+    in_picture_of $lesson 's/0\.6666666666666666/0.6666666666666667/' "another value in the lesson" "$said" Lesson
+    in_picture_of $lesson 's/^(contexts 5 and 8: 0\.128).*/\1/' "another tooltip in the lesson" "$said" Lesson
+    in_picture_of $sheet 's/^k=10$/k=9/' "another k in the lesson's sheet" "FAILED" Lesson
+    in_picture_of $sheet '3s/ [0-9]+$//' "another grave in the lesson's sheet" "FAILED" Lesson
+    in_picture_of tests/scripts/test_heat_map.py 's/"one context":/"no contexts":/' "a sheet too few" \
+        "25 != 26" Pictures.test_enough_pictures
 }
 
 # shellcheck disable=SC2016
@@ -396,8 +436,8 @@ make_heat_mistakes() {
         " : make heat$"
     in_make_heat test_the_picture_and_nothing_else 's/(host\/build.sh) > \/dev\/null/\1/' "words before the picture" \
         " : make heat$"
-    in_make_heat test_names_that_shells_and_make_could_misread 's/heat_map "\$\$@"/heat_map $$@/' "names cut at spaces" \
-        "two words"
+    in_make_heat test_names_that_shells_and_make_could_misread 's/heat_map "\$\$@"/heat_map $$@/' \
+        "names cut at spaces" "two words"
     in_make_heat test_refused '/^heat:/,/^$/{s/-ne 1 \]/-ne 3 ]/}' "no word of make list" "what is said"
     in_make_heat test_help 's/^#: make heat/# make heat/' "no line in the help" "test_help"
 }
