@@ -144,6 +144,8 @@ list_sheet_mistakes() {
     in_sheet_file 's/ferror\(from\)/0/' "no look at what was read" "a folder: status 1, not 2"
     in_sheet_file 's/LIMIT \+ 1\]/LIMIT]/' "a long sheet cut off" "not the words of refusal 11"
     in_sheet_file 's/argc > 2/argc > 3/' "two arguments taken" "two arguments: status 1, not 2"
+    in_sheet_file 's/<stdio.h>/<unistd.h>\n#include &/; s/fread\(.*from\)/argc > 1 ? & : (size_t)read(0, sheet, 999)/' \
+        "a slow pipe read in part" "three.sheet through a pipe: status 1, not 0"
 }
 
 check_mistakes() {
