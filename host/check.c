@@ -41,6 +41,13 @@ static void need(int ok, const char *what) {
     }
 }
 
+/* The bits of a value. 0.0 and -0.0 are equal, and have other bits. */
+static uint64_t bits_of(double value) {
+    uint64_t bits;
+    memcpy(&bits, &value, sizeof bits);
+    return bits;
+}
+
 /*
  * Makers of sheets. Each of them writes the listing, too, that is worked out from
  * what the sheet is made of: which pairs share a type, and how many of whose types.
@@ -346,19 +353,18 @@ enum { CELLS = sizeof cells / sizeof *cells };
  */
 static int celled(const struct cell *c, uint16_t first, uint16_t second, int at_end) {
     size_t length = c->list_len * sizeof *c->list;
-    uint64_t bits = UINT64_C(0xA5A5A5A5A5A5A5A5);
     struct fenced from = fence(length, at_end);
-    struct fenced to = fence(sizeof bits, at_end);
+    struct fenced to = fence(sizeof(double), at_end);
     const uint16_t *list = (const void *)from.bytes;
     double *value = (void *)to.bytes;
     memcpy(from.bytes, c->list, length);
-    memcpy(value, &bits, sizeof bits);
+    memset(to.bytes, 0xA5, sizeof *value);
     need(length == 0 || mprotect(from.all + PAGE, from.size - 2 * PAGE, PROT_READ) == 0, "a list to read only");
     uint64_t told = sazamkhri_cell(c->contexts, list, c->list_len, c->entries, first, second, value);
-    memcpy(&bits, value, sizeof bits);
+    int ok = told == c->told && bits_of(*value) == c->bits;
     unfence(from);
     unfence(to);
-    return told == c->told && bits == c->bits;
+    return ok;
 }
 
 /* Every case, with its contexts in both orders. */
@@ -381,10 +387,10 @@ static void long_list(void) {
         memcpy(list + i * SAZAMKHRI_ENTRY_WORDS, entry, sizeof entry);
     }
     uint64_t told = sazamkhri_cell(MANY + 1, list, WORDS, MANY, MANY, MANY - 1, &value);
-    say("the last of 65,534 entries", told, told == SAZAMKHRI_VALUE && value == 0.8);
+    say("the last of 65,534 entries", told, told == SAZAMKHRI_VALUE && bits_of(value) == FOUR_FIFTHS);
     list[WORDS - 1] = 3;
     told = sazamkhri_cell(MANY + 1, list, WORDS, MANY, 0, 1, &value);
-    say("the last of 65,534 entries, if it is wrong", told, told == BROKEN && value == 0.0);
+    say("the last of 65,534 entries, if it is wrong", told, told == BROKEN && bits_of(value) == 0);
     unfence(f);
 }
 
@@ -422,7 +428,8 @@ static void heat_map(const struct sheet *s) {
         const uint16_t *e = entry_of(list, entries, a, b);
         double value = -1.0;
         uint64_t told = sazamkhri_cell((uint16_t)contexts, list, sizeof list / sizeof *list, entries, a, b, &value);
-        ok = ok && told == (e ? SAZAMKHRI_VALUE : SAZAMKHRI_BLANK) && value == (e ? (double)e[2] / e[3] : 0.0);
+        ok = ok && told == (e ? SAZAMKHRI_VALUE : SAZAMKHRI_BLANK);
+        ok = ok && bits_of(value) == bits_of(e ? (double)e[2] / e[3] : 0.0);
         values += told == SAZAMKHRI_VALUE;
     }
     say(s->name, values, ok && values == 2 * entries);
@@ -440,13 +447,11 @@ static void heat_maps(void) {
 /* The bits of a value as the processor rounds now. Of its state a call changes the flag for inexact results alone. */
 static int has_bits(uint16_t shared, uint16_t in_either, uint64_t want) {
     const uint16_t list[] = {0, 1, shared, in_either};
-    uint64_t bits = 0;
     double value = 0.0;
     unsigned before = _mm_getcsr();
     uint64_t told = sazamkhri_cell(2, list, 4, 1, 0, 1, &value);
     unsigned changed = _mm_getcsr() ^ before;
-    memcpy(&bits, &value, sizeof bits);
-    return told == SAZAMKHRI_VALUE && bits == want && (changed & ~(unsigned)_MM_EXCEPT_INEXACT) == 0;
+    return told == SAZAMKHRI_VALUE && bits_of(value) == want && (changed & ~(unsigned)_MM_EXCEPT_INEXACT) == 0;
 }
 
 /* One third and four fifths, the last digit of their bits, in one way to round. */
@@ -493,11 +498,9 @@ static void *shared_cells(void *argument) {
     struct task *t = argument;
     for (unsigned i = t->number; i < 200 * CELLS; i++) {
         const struct cell *c = &cells[i % CELLS];
-        uint64_t bits = 0;
         double value = -1.0;
         uint64_t told = sazamkhri_cell(c->contexts, c->list, c->list_len, c->entries, c->first, c->second, &value);
-        memcpy(&bits, &value, sizeof bits);
-        t->wrong |= told != c->told || bits != c->bits;
+        t->wrong |= told != c->told || bits_of(value) != c->bits;
     }
     return NULL;
 }
@@ -529,8 +532,9 @@ static void threads(const char *name, void *(*work)(void *)) {
 
 #if !defined(SANITIZED)
 /*
- * What the header says was measured: of a listing to a kilobyte, of a cell at most. The guard is so large that no call
- * steps over it. The thread library is told of a part of it as if it were stack, since it takes none that is so small.
+ * What the header says was measured: of a listing to a kilobyte, and what a cell stays under. The guard is so large
+ * that no call steps over it. The thread library is told of a part of it as if it were stack, since it takes none that
+ * is so small.
  */
 enum {
     TEXT = SAZAMKHRI_LISTING_LIMIT,
@@ -666,11 +670,13 @@ static void listing_stack(void) {
 /* A cell uses too little to be tried with less. */
 static void cell_stack(void) {
     struct use most = {NULL, NULL, 0, 0, 0};
+    int ok = 1;
     for (const struct cell *c = cells; c < cells + CELLS; c++) {
         struct use u = use_of(call_cell, c);
         most = u.bytes > most.bytes ? u : most;
+        ok = ok && u.ok;
     }
-    say("the most of all cells", most.bytes, most.bytes <= SAZAMKHRI_CELL_STACK && most.bytes <= CELL_MEASURED);
+    say("the most of all cells", most.bytes, ok && most.bytes < CELL_MEASURED);
     say("a cell with the stack that the header asks for", SAZAMKHRI_CELL_STACK, with_room(&most, SAZAMKHRI_CELL_STACK));
 }
 

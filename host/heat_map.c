@@ -84,11 +84,12 @@ static int number(struct text *text, const char *before, uint16_t *value) {
     return text->at > first && sum <= UINT16_MAX;
 }
 
-/* The number of contexts, from a sheet that was listed. */
+/* The number of contexts: a sheet that was listed has a line for it, behind its first. */
 static int read_contexts(struct text sheet, struct map *map) {
-    uint16_t k;
-    return number(&sheet, "k=", &k) && number(&sheet, "\ncontexts=", &map->contexts) && letters(&sheet, "\n") &&
-           map->contexts <= CONTEXTS;
+    while (sheet.at < sheet.end && !letters(&sheet, "\ncontexts=")) {
+        sheet.at++;
+    }
+    return number(&sheet, "", &map->contexts) && letters(&sheet, "\n") && map->contexts <= CONTEXTS;
 }
 
 /* The entries of the list, from the lines `pair=` of a listing. */
@@ -106,15 +107,24 @@ static int read_list(struct text listing, struct map *map) {
 
 /* ---- the cells */
 
-/* Asks for one cell, and keeps it if it has a value. Gives 0 if it is refused, and says so. */
+/* Says of a cell why it is not painted: of these lists none is refused, and no other answer is ever given. */
+static void tell(uint16_t row, uint16_t column, uint64_t answer) {
+    fprintf(stderr, "heat_map: the cell of contexts %u and %u ", (unsigned)row, (unsigned)column);
+    if (answer >= SAZAMKHRI_REFUSED) {
+        uint64_t refusal = answer - SAZAMKHRI_REFUSED;
+        fprintf(stderr, "is refused (%u): %s\n", (unsigned)refusal, meaning(refusal));
+    } else {
+        fprintf(stderr, "has the answer %u, which no cell has\n", (unsigned)answer);
+    }
+}
+
+/* Asks for one cell, and keeps it if it has a value. Gives 0 if it is neither blank nor has one, and says so. */
 static int ask(struct map *map, uint16_t row, uint16_t column) {
     double value;
     uint64_t answer =
         sazamkhri_cell(map->contexts, map->list, WORDS * (size_t)map->pairs, map->pairs, row, column, &value);
     if (answer != SAZAMKHRI_BLANK && answer != SAZAMKHRI_VALUE) {
-        uint64_t refusal = answer - SAZAMKHRI_REFUSED;
-        fprintf(stderr, "heat_map: the cell of contexts %u and %u is refused (%u): %s\n", (unsigned)row,
-                (unsigned)column, (unsigned)refusal, meaning(refusal));
+        tell(row, column, answer);
         return 0;
     }
     if (answer == SAZAMKHRI_VALUE) {

@@ -4,9 +4,10 @@
  * Two calls. sazamkhri_listing takes the bytes of a sheet and a buffer, and
  * writes the listing into the buffer. sazamkhri_cell takes the pairs of a listing
  * and two contexts, and gives what the heat map of these pairs has in their cell:
- * how alike they are, or nothing. That both do what is said here is proved, for
- * every sheet, every list and every buffer (crates/host, crates/listing and
- * crates/heat); what the caller has to see to is under 'What the caller owes'.
+ * how alike they are, or nothing. What both answer is proved, for every sheet,
+ * every list and every buffer (crates/host, crates/listing and crates/heat); what
+ * is measured or tested is called so. What the caller has to see to is under 'What
+ * the caller owes'.
  *
  * Link with libsazamkhri.a: `make install` puts it and this header where you
  * say, with a file for pkg-config. Of the C library it needs memset, and nothing

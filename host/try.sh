@@ -1,30 +1,35 @@
 #!/usr/bin/env bash
-# Tries the checks of host/test.sh on mistakes: each is planted in a copy, and the check must notice, and say what.
+# Tries the checks of the C programmer's side on mistakes: those of host/test.sh (the calls, the program that lists, the
+# library as a file, README's lines, the installer), and tests/scripts/test_heat_map.py, which tries the picture's
+# program. Each mistake is planted in a copy, and the check must notice, and say what.
 #
-#     host/try.sh
+#     host/try.sh [GROUP..]
 #
-# Exits with 1 if a mistake goes unnoticed, or if a check refuses the copy as it is. The library comes first:
-# scripts/build.py host.
+# A group is one of the functions called .._mistakes, or as_they_are. Without names all are tried, as many at a time as
+# there are processors. Exits with 1 if a mistake goes unnoticed, or if a check refuses the copy as it is. The library
+# comes first: scripts/build.py host.
 set -eu -o pipefail
 cd "$(dirname "$0")/.."
+# A second function of one name would take the place of the first, without a word.
+twice=$(sed -n -E 's/^ *(function +)?([A-Za-z0-9_]+) *\(\).*/\2/p' host/try.sh | sort | uniq -d)
+[ -z "$twice" ] || { echo "host/try.sh: defined twice: $twice"; exit 1; }
 host/library.sh
-real=$PWD
 CC=${CC:-cc}
 copy=$(mktemp -d)
 trap 'rm -rf "$copy"' EXIT
 tried=0 wrong=0
 export KINDS=plain LC_ALL=C
 
-# The part of the project that the checks look at, as it is.
+# The part of the project that the checks look at, as it is. There, nothing is to be proved: the library lies ready.
 fresh() {
-    rm -rf "$copy/host" "$copy/target"
-    mkdir -p "$copy/target/staticlib"
-    cp -r host "$copy/host"
-    cp README.md "$copy/README.md"
-    cp Makefile "$copy/Makefile"
-    cp target/staticlib/libhost.a "$copy/target/staticlib/libhost.a"
-    ln -s -f -n "$real/examples" "$copy/examples"
-    ln -s -f -n "$real/crates" "$copy/crates"
+    rm -rf "${copy:?}"/*
+    mkdir -p "$copy/target/staticlib" "$copy/docs" "$copy/tests/scripts"
+    cp -r host examples scripts README.md Makefile "$copy"
+    cp docs/LESSON.md "$copy/docs"
+    cp tests/scripts/test_heat_map.py "$copy/tests/scripts"
+    cp target/staticlib/libhost.a "$copy/target/staticlib"
+    printf '#!/bin/sh\n' > "$copy/scripts/build.py"
+    ln -s "$PWD/crates" "$copy/crates"
 }
 
 # The checks, each on the copy.
@@ -32,6 +37,7 @@ programs() { PROGRAMS=list_sheet "$copy/host/build.sh" && "$copy/host/check-prog
 calls() { PROGRAMS=check "$copy/host/build.sh" && "$copy/target/host/check"; }
 archives() { "$copy/host/library.sh" && "$copy/host/check-archive.sh"; }
 installs() { "$copy/host/check-install.sh" "$@"; }
+pictures() { PROGRAMS=heat_map "$copy/host/build.sh" && python3 "$copy/tests/scripts/test_heat_map.py" "$@"; }
 
 # as_it_is CHECK..: the check passes the copy without a mistake.
 as_it_is() {
@@ -115,6 +121,9 @@ in_call() { library listing "$1" "$(with "$2")" "" "$3" calls; }
 in_cell() { library cell "$1" "$(cell_with "$2")" "" "$3" calls; }
 in_archive() { library listing "$1" "$(with "$2")${5-}" "$3" "$4" archives; }
 in_readme() { plant README.md "$1" "README: $2" "$3" installs c99; }
+in_heat_map() { plant host/heat_map.c "$1" "$2" "$3" pictures "${@:4}"; }
+in_picture_of() { plant "$1" "$2" "$3" "$4" pictures "${@:5}"; }
+in_make_heat() { plant Makefile "$2" "make heat: $3" "$4" pictures "Make.$1"; }
 
 list_sheet_mistakes() {
     in_sheet_file 's/return REFUSED;/return DONE;/' "status 0 for a refusal" "status 0, not 1"
@@ -135,6 +144,8 @@ list_sheet_mistakes() {
     in_sheet_file 's/ferror\(from\)/0/' "no look at what was read" "a folder: status 1, not 2"
     in_sheet_file 's/LIMIT \+ 1\]/LIMIT]/' "a long sheet cut off" "not the words of refusal 11"
     in_sheet_file 's/argc > 2/argc > 3/' "two arguments taken" "two arguments: status 1, not 2"
+    in_sheet_file 's/<stdio.h>/<unistd.h>\n#include &/; s/fread\(.*from\)/argc > 1 ? & : (size_t)read(0, sheet, 999)/' \
+        "a slow pipe read in part" "three.sheet through a pipe: status 1, not 0"
 }
 
 check_mistakes() {
@@ -153,9 +164,11 @@ check_mistakes() {
     in_check 's/0x3FEFAEE41E6A7498/0x3FEFAEE41E6A7499/' "another last bit expected" "100 codes shared of 101 .*WRONG"
     in_check 's/CELL_MEASURED = [0-9]+/CELL_MEASURED = 16/' "less stack for a cell said to be measured" \
         "the most of all cells .*WRONG"
+    in_check '/^static void \*call_cell/,/^}/s/told == /told != /' "another answer expected where stack is measured" \
+        "the most of all cells .*WRONG"
     in_check 's/_MM_ROUND_UP, 0x6/_MM_ROUND_UP, 0x5/' "another way to round expected" "rounded up .*WRONG"
     in_header 's/(SAZAMKHRI_STACK) 49152/\1 30000/' "too little stack promised" "16 codes.* 30[0-9]* WRONG"
-    in_header 's/(CELL_STACK) 1024/\1 16/' "too little stack for a cell promised" "the most of all cells .*WRONG"
+    in_header 's/(CELL_STACK) 1024/\1 16/' "too little stack for a cell promised" "Segmentation fault"
     in_header 's/(NOT_RISING =) 5/\1 15/' "a wrong number in the header" "a code twice .*WRONG"
     in_header 's/(NO_SUCH_CONTEXT =) 13/\1 14/' "a wrong number for a cell" "there are no contexts .*WRONG"
     in_header 's/(LIST_BROKEN =) 17/\1 16/' "a wrong number for a list" "an entry too many .*WRONG"
@@ -208,6 +221,10 @@ cell_answer_mistakes() {
     in_cell "the value kept for a refusal" 'if (told > 1) *value = before;' "there are no contexts .*WRONG"
     in_cell "the value kept for a blank cell" 'if (told == 0) *value = before;' "a context against itself .*WRONG"
     in_cell "a blank cell with -0.0" 'if (told == 0) *value = -0.0;' "a context against itself .*WRONG"
+    in_cell "a blank cell with -0.0 on one map" 'if (told == 0 && contexts == 112) *value = -0.0;' \
+        "112 contexts, two of them with over 48 codes .*WRONG"
+    in_cell "-0.0 where a long list is refused" 'if (told == 1000017 && entries == 65534) *value = -0.0;' \
+        "entries, if it is wrong .*WRONG"
     in_cell "a value rounded twice" '*value = (float)*value;' "1 code shared of 3 .*WRONG"
     in_cell "the value the other way up" 'if (told == 1) *value = 1 / *value;' "a listed pair .*WRONG"
     in_cell "one order alone" 'if (told == 1 && first > second) { told = 0; *value = 0.0; }' "a listed pair .*WRONG"
@@ -298,20 +315,7 @@ install_mistakes() {
     plant host/sazamkhri.pc.in 's/@VERSION@/0.9/' "another version" "version of pkg-config: 0.9" installs staged
 }
 
-# pictures TEST..: tries the heat map in the copy. There, nothing is to be proved: the library lies ready.
-pictures() {
-    mkdir -p "$copy/tests/scripts" "$copy/scripts"
-    cp tests/scripts/test_heat_map.py "$copy/tests/scripts/test_heat_map.py"
-    cp scripts/*.py "$copy/scripts/"
-    printf '#!/bin/sh\n' > "$copy/scripts/build.py"
-    PROGRAMS=heat_map "$copy/host/build.sh" && python3 "$copy/tests/scripts/test_heat_map.py" "$@"
-}
-
-# in_heat_map EDIT MISTAKE WORDS TEST..: one edit in the picture's program, for these tests.
-in_heat_map() { plant host/heat_map.c "$1" "$2" "$3" pictures "${@:4}"; }
-in_make_heat() { plant Makefile "$1" "make heat: $2" "$3" pictures Make; }
-
-cell_mistakes() {
+painted_cell_mistakes() {
     local coloured="cells that are coloured" tests=Pictures.test_cells
     in_heat_map 's/(answer == SAZAMKHRI_VALUE)\)/\1 \&\& row < column)/' "cells one way round" "$coloured" $tests
     in_heat_map 's/TOP \+ cell->row \*/TOP + (cell->row + 1) */' "rows off by one" "$coloured" $tests
@@ -362,10 +366,15 @@ picture_mistakes() {
 }
 
 answer_mistakes() {
-    in_heat_map 's/answer != SAZAMKHRI_VALUE\)/answer > 2000000)/' "a refused cell left blank" "Tuples differ: \(0, " \
-        StandIns.test_a_refused_cell_is_never_painted
+    local tests=StandIns.test_an_odd_answer_is_never_painted
+    in_heat_map 's/answer != SAZAMKHRI_VALUE\)/answer > 2000000)/' "a refused cell left blank" \
+        "Tuples differ: \(0, " $tests
     in_heat_map '/^static int ask\(/,/^}/s/return 0;/return 1;/' "a refused cell told, and painted" \
-        "Tuples differ: \(0, " StandIns.test_a_refused_cell_is_never_painted
+        "Tuples differ: \(0, " $tests
+    in_heat_map 's/answer >= SAZAMKHRI_REFUSED/answer > 1/' "another answer told as a refusal" \
+        "which no cell has" $tests
+    in_heat_map 's/answer >= SAZAMKHRI_REFUSED/answer > SAZAMKHRI_REFUSED/' "a refusal told as another answer" \
+        "is refused" $tests
     in_heat_map 's/if \(!ask\(map/if (cell % (map->contexts + 1) != 0 \&\& !ask(map/' "the diagonal not asked for" \
         "cells that are asked for" StandIns.test_every_cell_is_asked_for_once
     in_heat_map 's/return well && .*/return well;/' "more behind a listing" "AssertionError" \
@@ -376,6 +385,14 @@ answer_mistakes() {
         StandIns.test_listings_that_never_are
     in_heat_map 's/\(size_t\)\(text->end - text->at\) < length \|\| //' "letters read past the end" "AddressSanitizer" \
         StandIns.test_listings_that_never_are
+    in_heat_map 's/sheet\.at < sheet\.end && //' "a sheet read past its end" "AddressSanitizer" \
+        StandIns.test_listings_that_never_are
+    in_heat_map 's/"\\ncontexts=/"contexts=/' "contexts from within a line" "a cell with the size" \
+        StandIns.test_listings_that_never_are
+    in_heat_map 's/ && map->contexts <= CONTEXTS//' "more contexts than fit" "AssertionError" \
+        StandIns.test_listings_that_never_are
+    in_heat_map 's/cells\[CONTEXTS \* CONTEXTS\]/cells[2 * PAIRS]/' "room for the cells of a listing alone" \
+        "AddressSanitizer" StandIns.test_the_largest_square_in_one_colour
     in_heat_map 's/return DONE;/return REFUSED;/' "status 1 for a picture" "status 1" Pictures.test_form
     in_heat_map 's/return (refused\(.*)/\1 return DONE;/' "status 0 for a refusal" "a refused sheet" \
         Streams.test_refused_sheets
@@ -383,35 +400,85 @@ answer_mistakes() {
         Streams.test_cannot_be_written
 }
 
-# shellcheck disable=SC2016
-make_heat_mistakes() {
-    in_make_heat '/^heat:/,/^$/{/Which sheet/d}' "no words where no sheet is named" "what is said"
-    in_make_heat '/^heat:/,/^$/{/scripts\/list.py/d}' "no words for a missing sheet" "what is said"
-    in_make_heat 's/\[ "\$\$SHEET" = - \] \|\| set --/set --/' "no standard input" " : make heat$"
-    in_make_heat 's/(host\/build.sh) > \/dev\/null/\1/' "words before the picture" " : make heat$"
-    in_make_heat 's/heat_map "\$\$@"/heat_map $$@/' "names cut at spaces" "two words"
-    in_make_heat '/^heat:/,/^$/{s/-ne 1 \]/-ne 3 ]/}' "no word of make list" "what is said"
-    in_make_heat 's/^#: make heat/# make heat/' "no line in the help" "test_help"
+# in_sheet_of EDIT MISTAKE WORDS TEST: what all example programs have in common, for a test of the picture's streams.
+in_sheet_of() { in_picture_of host/sheet_file.h "$1" "$2" "$3" "Streams.$4"; }
+
+stream_mistakes() {
+    in_sheet_of 's/LIMIT \+ 1\]/LIMIT]/' "a long sheet cut off" "a refused sheet|Regex didn't match" test_odd_sheets
+    in_sheet_of 's/argc > 2/argc > 3/' "two arguments taken" "a fault" test_cannot_be_read
+    in_sheet_of 's/ferror\(from\)/0/' "no look at what was read" "a fault" test_cannot_be_read
+    in_sheet_of 's/argc == 2 \?/argc == 2 \&\& strcmp(argv[1], "-") != 0 ?/' "a file called - not read" " : -$" \
+        test_names_that_files_have
+    in_sheet_of 's/<stdio.h>/<unistd.h>\n#include &/; s/fread\(.*from\)/argc > 1 ? & : (size_t)read(0, sheet, 9999)/' \
+        "a slow pipe read in part" "Tuples differ: \(1, " test_file_input_and_slow_pipe
+    in_heat_map 's/<stdlib.h>/<unistd.h>\n#include &/; s/printf\("<desc>/printf("<!-- %d -->", getpid());\n&/' \
+        "other bytes in every run" "test_every_run" Pictures.test_every_run_gives_the_same_bytes
 }
 
-as_it_is programs
-as_it_is calls
-as_it_is archives
-as_it_is installs
-as_it_is pictures
-list_sheet_mistakes
-check_mistakes
-call_mistakes
-cell_mistakes
-cell_answer_mistakes
-cell_check_mistakes
-archive_mistakes
-readme_mistakes
-install_mistakes
-cell_mistakes
-colour_mistakes
-picture_mistakes
-answer_mistakes
-make_heat_mistakes
-echo "mistakes in C and around it: $tried tried, $wrong problems"
-[ "$wrong" -eq 0 ]
+# What the lesson says of its pictures, and the sheets that the tests make.
+told_mistakes() {
+    local lesson=docs/LESSON.md sheet=examples/cemetery.sheet said="what the lesson says"
+    in_picture_of $lesson 's/, 20 coloured/, 21 coloured/' "another count in the lesson" "$said" Lesson
+    in_picture_of $lesson 's/other 45 stay/other 44 stay/' "another rest in the lesson" "$said" Lesson
+    in_picture_of $lesson 's/missing: 7 and 10/missing: 7 and 11/' "another pair in the lesson" "$said" Lesson
+    in_picture_of $lesson 's/^for 9\. And/for 8. And/' "another dark cell in the lesson" "$said" Lesson
+    in_picture_of $lesson 's/0\.6666666666666666/0.6666666666666667/' "another value in the lesson" "$said" Lesson
+    in_picture_of $lesson 's/^(contexts 5 and 8: 0\.128).*/\1/' "another tooltip in the lesson" "$said" Lesson
+    in_picture_of $sheet 's/^k=10$/k=9/' "another k in the lesson's sheet" "FAILED" Lesson
+    in_picture_of $sheet '3s/ [0-9]+$//' "another grave in the lesson's sheet" "FAILED" Lesson
+    in_picture_of tests/scripts/test_heat_map.py 's/"one context":/"no contexts":/' "a sheet too few" \
+        "25 != 26" Pictures.test_enough_pictures
+}
+
+# shellcheck disable=SC2016
+make_heat_mistakes() {
+    in_make_heat test_no_sheet '/^heat:/,/^$/{/Which sheet/d}' "no words where no sheet is named" "what is said"
+    in_make_heat test_no_sheet '/^heat:/,/^$/{/scripts\/list.py/d}' "no words for a missing sheet" "what is said"
+    in_make_heat test_the_picture_and_nothing_else 's/\[ "\$\$SHEET" = - \] \|\| set --/set --/' "no standard input" \
+        " : make heat$"
+    in_make_heat test_the_picture_and_nothing_else 's/(host\/build.sh) > \/dev\/null/\1/' "words before the picture" \
+        " : make heat$"
+    in_make_heat test_names_that_shells_and_make_could_misread 's/heat_map "\$\$@"/heat_map $$@/' \
+        "names cut at spaces" "two words"
+    in_make_heat test_refused '/^heat:/,/^$/{s/-ne 1 \]/-ne 3 ]/}' "no word of make list" "what is said"
+    in_make_heat test_help 's/^#: make heat/# make heat/' "no line in the help" "test_help"
+}
+
+as_they_are() {
+    as_it_is programs
+    as_it_is calls
+    as_it_is archives
+    as_it_is installs
+    as_it_is pictures
+}
+
+# groups: all that can be tried, by name.
+groups() { declare -F | sed -n -E 's/^declare -f (as_they_are|.*_mistakes)$/\1/p'; }
+
+# some GROUP..: tries these, and says how it went.
+some() {
+    local group
+    for group in "$@"; do
+        groups | grep -q -x -e "$group" || { echo "$group: no group of mistakes"; exit 2; }
+        "$group"
+    done
+    echo "$*: $tried tried, $wrong problems"
+    [ "$wrong" -eq 0 ]
+}
+
+# all: tries every group by itself, several at a time, and adds up. A group that does not come to its end is a problem.
+all() {
+    local group last
+    # shellcheck disable=SC2016
+    groups | xargs -P "$(nproc)" -I GROUP sh -c 'host/try.sh GROUP > "$0/GROUP" 2>&1 || true' "$copy"
+    for group in $(groups); do
+        cat "$copy/$group"
+        last=$(tail -n 1 "$copy/$group")
+        [[ $last =~ ^$group:\ ([0-9]+)\ tried,\ ([0-9]+)\ problems$ ]] || { wrong=$((wrong + 1)); continue; }
+        tried=$((tried + BASH_REMATCH[1])) wrong=$((wrong + BASH_REMATCH[2]))
+    done
+    echo "mistakes in C and around it: $tried tried, $wrong problems"
+    [ "$wrong" -eq 0 ] && [ "$tried" -gt 0 ]
+}
+
+if [ $# -gt 0 ]; then some "$@"; else all; fi

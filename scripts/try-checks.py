@@ -49,11 +49,23 @@ FIGURES = (
 )
 
 
-def entry_points():
+def public_functions():
+    """The script that checks contracts, as a module: its name is none that `import` takes."""
     spec = spec_from_file_location("public_functions", HERE / "public-functions.py")
     module = module_from_spec(spec)
     spec.loader.exec_module(module)
-    return sorted(module.ENTRY_POINTS)
+    return module
+
+
+PUBLIC_FUNCTIONS = public_functions()
+
+
+def lends(source, name):
+    """Whether a buffer is lent to the function by `&mut`, as its parameters in the source say."""
+    text = PUBLIC_FUNCTIONS.blanked(source.read_text(encoding="utf-8"))
+    named = next(found for found in PUBLIC_FUNCTIONS.PUBLIC.finditer(text) if found[1] == name)
+    parameters, _, _ = PUBLIC_FUNCTIONS.header(text, named.end())
+    return any(is_mut for _, is_mut in PUBLIC_FUNCTIONS.parameters_of(parameters))
 
 
 def verdict(check, root):
@@ -79,7 +91,7 @@ def inside(pattern, inner, new, flags=0):
     return rewritten(pattern, lambda m: m[1] + re.sub(inner, new, m[2], count=1, flags=flags))
 
 
-def contract_damages(full):
+def contract_damages(root, full):
     """What can be wrong with an entry point's contract and theorems: what it is, the file, and the change."""
     crate, name = full.split("::")
     source, proofs = f"crates/{crate}/src/lib.rt", f"crates/{crate}/proofs/Only.antt"
@@ -97,17 +109,19 @@ def contract_damages(full):
         ("by another `OneAnswer`", rewritten(stated, r"\1fake.\2")),
         ("by an `OneAnswer` from elsewhere", swapped("Rattle.words.proofs.OneAnswer.{", "Rattle.words.proofs.Lists.{")),
         ("with a view that forgets", inside(stated, r"λ κs u x\. (.*)\)$", r"λ κs u x. let w = \1 in 0)", re.S)),
-        ("that sees no buffer", rewritten(rf"(pub {only} :.*?λ κs u x\.)[^\n]*\)\n", r"\1 u)\n", re.S)),
     ):
         yield f"a `{only}` {what}", proofs, change
+    if lends(root / source, name):
+        change = rewritten(rf"(pub {only} :.*?λ κs u x\.)[^\n]*\)\n", r"\1 u)\n", re.S)
+        yield f"a `{only}` that sees no buffer", proofs, change
     if crate != "probe":
         yield f"no `{says}`", proofs, swapped(f"pub {says} :", f"pub not-{says} :")
 
 
-def damages():
+def damages(root):
     """Each damage: what it is, the check that must notice, the file, and how its text changes."""
-    for full in entry_points():
-        for what, where, change in contract_damages(full):
+    for full in sorted(PUBLIC_FUNCTIONS.ENTRY_POINTS):
+        for what, where, change in contract_damages(root, full):
             yield what, "public-functions.py", where, change
     for what, where, old, new in FIGURES:
         yield what, "check-figures.py", where, swapped(old, new)
@@ -139,7 +153,7 @@ def main(arguments):
             if said != "passed":
                 print(f"the copy as it is: {check} {said}")
                 wrong += 1
-        for what, check, where, change in damages():
+        for what, check, where, change in damages(root):
             tried += 1
             file = copy / where
             text = file.read_text(encoding="utf-8")

@@ -801,7 +801,7 @@ class Examples(Trial):
             self.assertEqual(re.split("  +", line.strip()), wanted)
 
     def test_page(self):
-        """docs/CATALOGUES.md prints what it says; `make list` stands for the program, which is built already."""
+        """docs/CATALOGUES.md prints what it says; the program and the library for C are built already."""
         page = (ROOT / "docs/CATALOGUES.md").read_text(encoding="utf-8")
         check_program()
         steps = re.findall(r"```sh\n(.*?)```\s*```text\n(.*?)```", page, re.S)
@@ -809,6 +809,8 @@ class Examples(Trial):
         self.assertEqual(len(steps), page.count("```sh\n"))
         for commands, wanted in steps:
             typed = re.sub(r"make list SHEET=(\S+)", r"target/bin/sazamkhri < \1", commands)
+            painted = r"PROGRAMS=heat_map KINDS=plain host/build.sh > /dev/null && target/host/heat_map \1"
+            typed = re.sub(r"make heat SHEET=(\S+)", painted, typed)
             ran = subprocess.run(["sh", "-c", typed], cwd=ROOT, stdout=subprocess.PIPE, stderr=subprocess.DEVNULL)
             self.assertEqual(ran.stdout.decode(), wanted, commands)
 

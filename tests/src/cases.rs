@@ -692,6 +692,7 @@ mod tests {
             case.stated().unwrap();
         }
     }
+
     #[test]
     fn the_map_by_brute_force_tells_every_named_cell() {
         for case in cells() {

@@ -207,8 +207,8 @@ mod tests {
 
     /// Each bit, from the definition: no f64 beside it is as near, or one that is has an odd last bit.
     fn is_nearest(shared: u16, union: u16) -> bool {
-        // A similarity is its 53 bits times 2 to the power of its exponent; the distance is in parts of `union` times
-        // 2 to the power 80, which the least similarity needs no more than.
+        // A value is its 53 bits, divided by 2 to the power `scale`. For the distance both sides are multiplied by
+        // `union` and by 2 to the power 80, so that they are whole numbers; the least similarity needs a scale of 68.
         let distance = |bits: u64| {
             let scale = 1023 + 52 - (bits >> 52);
             let whole = u128::from((bits & ((1 << 52) - 1)) + (1 << 52));

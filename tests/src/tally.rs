@@ -2,8 +2,8 @@
 
 use std::collections::BTreeMap;
 
-/// How one case ended: 0 for an acceptance, else the number of the refusal; none if the answer had no room, so that
-/// nothing was done.
+/// How one case ended: 0 for an acceptance, else the number of the refusal; none if the answer or the value had no
+/// room, so that nothing was done.
 pub type End = Option<u64>;
 
 /// What became of one case: how it ended, and which ways it went there, where the kind tells ways apart.
