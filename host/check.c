@@ -41,7 +41,7 @@ static void need(int ok, const char *what) {
     }
 }
 
-/* The bits of a value. 0.0 and -0.0 are equal, and have other bits. */
+/* The bits of a value: those of 0.0 and -0.0 differ, though the two are equal. */
 static uint64_t bits_of(double value) {
     uint64_t bits;
     memcpy(&bits, &value, sizeof bits);

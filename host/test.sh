@@ -1,7 +1,7 @@
 #!/usr/bin/env bash
 # Everything that the C programmer is promised, tried: the calls at their borders and the program that lists, plain and
-# under the sanitizers; the library as a file; README's lines; and that it installs. The picture's program is built here,
-# and tests/scripts/test_heat_map.py tries it. host/try.sh sees these checks fail.
+# under the sanitizers; the library as a file; README's lines; and that it installs. The picture's program is built
+# here, and tests/scripts/test_heat_map.py tries it. host/try.sh sees these checks fail.
 set -eu -o pipefail
 cd "$(dirname "$0")/.."
 env -u PROGRAMS -u KINDS host/build.sh
