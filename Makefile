@@ -54,7 +54,7 @@ install:
 uninstall:
 	host/install.sh --remove
 
-#: make test                  the whole gate: every proof, every check; 20 to 25 minutes
+#: make test                  the whole gate: every proof, every check; 25 to 40 minutes
 test:
 	scripts/test.sh
 

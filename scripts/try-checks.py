@@ -36,7 +36,7 @@ FIGURES = (
     ("another ratio in README", "README.md", "About 0.3 to", "About 0.2 to"),
     ("another count of host rows that end in 8", "docs/BENCHMARKS.md", "**10 of the 18 rows", "**9 of the 18 rows"),
     ("another time of the first run", "README.md", "about four minutes", "about two minutes"),
-    ("another time of the gate", "Makefile", "20 to 25 minutes", "10 to 15 minutes"),
+    ("another time of the gate", "Makefile", "25 to 40 minutes", "10 to 15 minutes"),
     ("a kind of trials that nobody runs", "tests/src/choice.rs", '"doubled", "cell",', '"doubled",'),
     ("a kind of trials that the use does not tell", "tests/src/choice.rs", "doubled | cell |", "doubled |"),
     ("a kind of trials that has no row", "tests/README.md", "| `trials cell` |", "| `trials cells` |"),
