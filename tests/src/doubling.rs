@@ -1,7 +1,7 @@
 //! The user's law: give every type a second code, and the ratios do not move. Each code c becomes 2c and 2c + 1, so
 //! that every context has twice as many types, and every pair shares twice as many.
 
-use crate::random::{large_site, small_site, Contexts, Random, KINDS};
+use crate::random::{self, Contexts, Random};
 
 /// What a site may have so that it can be doubled within the limits of the join.
 pub const MOST_CODES: usize = 2_048;
@@ -58,14 +58,7 @@ pub fn can_be_doubled(mut site: Contexts) -> Contexts {
 
 /// A site to be doubled: of this large kind, or a small one.
 pub fn some_site(random: &mut Random, large: Option<usize>) -> Contexts {
-    let site = match large {
-        Some(kind) => large_site(random, kind),
-        None => {
-            let kind = random.below(KINDS);
-            small_site(random, kind)
-        }
-    };
-    can_be_doubled(site)
+    can_be_doubled(random::some_site(random, large))
 }
 
 /// The number of events of the doubled site, from that of the site itself, the sizes of its contexts, and the
@@ -87,6 +80,7 @@ pub fn events_doubled(events: u64, sizes: &[usize], cut_off: Option<(usize, usiz
 mod tests {
     use super::*;
     use crate::paper::{self, Survey};
+    use crate::random::{large_site, small_site, KINDS};
     use crate::random::{slices, tables, LARGE_KINDS};
 
     #[test]

@@ -362,3 +362,14 @@ pub fn large_site(random: &mut Random, kind: usize) -> Contexts {
         }
     }
 }
+
+/// The large site of this kind, or else a small one of any kind.
+pub fn some_site(random: &mut Random, large: Option<usize>) -> Contexts {
+    match large {
+        Some(kind) => large_site(random, kind),
+        None => {
+            let kind = random.below(KINDS);
+            small_site(random, kind)
+        }
+    }
+}

@@ -11,7 +11,7 @@ use crate::ffi::{self, Lent};
 use crate::heat::{self, similarity, Asked, Bits, Cell, Told};
 use crate::lists::{all_questions, cells_below, some_question, Question};
 use crate::paper::{self, Findings, Survey};
-use crate::random::{large_kind, large_site, seed_of, slices, small_site, tables, Contexts, Random, KINDS};
+use crate::random::{large_kind, seed_of, slices, some_site, tables, Contexts, Random};
 use crate::tally::{Outcome, Tally};
 use crate::ways::{ways, LARGE_MAP, MAP, NO_ANSWER, NO_VALUE, WAYS};
 
@@ -206,13 +206,7 @@ fn other_counts(random: &mut Random, contexts: u16, found: usize, list: &mut Lis
 
 /// The whole map of a random site.
 fn some_map(random: &mut Random, large: Option<usize>) -> Result<Outcome, String> {
-    let contexts = match large {
-        Some(kind) => large_site(random, kind),
-        None => {
-            let kind = random.below(KINDS);
-            small_site(random, kind)
-        }
-    };
+    let contexts = some_site(random, large);
     let slices = slices(&contexts);
     let survey = Survey::new(&slices);
     let k = if large.is_some() { *random.pick(&[64, 64, 10, 1]) } else { some_k(random, survey.sharing()) };

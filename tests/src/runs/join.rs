@@ -5,7 +5,7 @@ use crate::cases;
 use crate::damage::{all_sites, all_tables, break_tables, Tables};
 use crate::ffi::{self, JoinBuffers, Lent};
 use crate::paper::{self, Joined, Rooms, Survey};
-use crate::random::{large_kind, large_site, seed_of, slices, small_site, tables, Random, KINDS};
+use crate::random::{large_kind, seed_of, slices, some_site, tables, Random};
 use crate::tally::{Outcome, Tally};
 
 pub const KIND: Kind = Kind {
@@ -156,13 +156,7 @@ fn shorten(random: &mut Random, rooms: &mut Rooms, k: u16, met: usize) {
 /// The trial of this number.
 fn make(random: &mut Random, number: u64) -> Trial {
     let large = large_kind(number, EVERY);
-    let contexts = match large {
-        Some(kind) => large_site(random, kind),
-        None => {
-            let kind = random.below(KINDS);
-            small_site(random, kind)
-        }
-    };
+    let contexts = some_site(random, large);
     let slices = slices(&contexts);
     let survey = Survey::new(&slices);
     let k = if large.is_some() { *random.pick(&[64, 64, 1, 10]) } else { some_k(random, survey.sharing()) };
