@@ -22,16 +22,20 @@ use Rattle.site.proofs.Top.{top-sorted, top-add, top-length, top-none, top-in}
 use Rattle.walk.specs.declared.Fraction.{Fraction}
 use Rattle.walk.specs.Fractions.{ratioOf, lower}
 use Rattle.walk.proofs.Fractions.{lower-below}
-use Rattle.words.specs.Words.{flat}
+use Rattle.words.specs.Words.{flat, padded}
 use Rattle.words.proofs.Words.{padded-none}
 use Rattle.entries.specs.Entries.{width, entryOf, entryAt, entries, similarityOf, entryBefore, Ordered, inserted, Inserts, belowEntry}
 use Rattle.entries.specs.declared.Entry.{Entry}
 use Rattle.entries.specs.Listed.{entryWords, Listed, Proper}
-use Rattle.entries.proofs.Reading.{flat-width, length-entries, entries-at, entries-held}
+use Rattle.entries.proofs.Reading.{flat-width, length-entries, entries-at, entries-padded, entries-held}
 use Rattle.entries.proofs.Alike.{union-positive, same-order}
 
 pub entry-length : (site : Site) (pairs : List Pair) → length (entryWords site pairs) ≡ width * length pairs
 entry-length site pairs = flat-width (map (entryOf site) pairs) ∙ ap (λ (n : ℕ). width * n) (length-map pairs (entryOf site))
+
+-- read from a buffer of them with zeros behind
+pub entries-back : (site : Site) (pairs : List Pair) (n : ℕ) {f : ℕ} {list : List ℕ} → f ≡ length pairs → list ≡ padded n (entryWords site pairs) → entries f list ≡ map (entryOf site) pairs
+entries-back site pairs n q h = rw (q ∙ sym (length-map pairs (entryOf site)), h) (entries-padded n (map (entryOf site) pairs))
 
 pub listed-start : (site : Site) (k n : ℕ) → Listed site k [] (replicate n 0) 0
 unfolding flat

@@ -7,8 +7,9 @@ use native.Mathlib.Nat.{add-zero, zero-add, sub-zero, le-of-suc-le-suc}
 use native.Mathlib.Numerals.{towards-suc}
 use native.Mathlib.Omega.{arith}
 use lib.ListN.{length, getD, take, drop, replicate, length-append}
-use lib.Seq.{drop-cons, take-add, drop-drop, getD-append-add, getD-append-seam}
+use lib.Seq.{take-add, drop-drop, getD-append-add, getD-append-seam}
 use Rattle.words.specs.Words.{flat, padded, Holds}
+use Rattle.words.proofs.Lists.{readFrom, read-part}
 use Rattle.words.proofs.Words.{flat-length}
 use Rattle.entries.specs.Entries.{context, width, words, entryAt, entriesFrom, entries}
 use Rattle.entries.specs.declared.Entry.{Entry}
@@ -42,9 +43,9 @@ module _ (ws : List ℕ) where
       let f : suc n - suc m ≡ n - m = omega arith in
       rw (e, f) (drop-entries m (at + width) n (omega arith))
 
-  entry-words : (at : ℕ) → at + width ≤ length ws → words (entryAt ws at) ≡ take width (drop at ws)
-  entry-words at h =
-      rw (drop-cons ws at 0 (omega arith), drop-cons ws (suc at) 0 (omega arith), drop-cons ws (suc (suc at)) 0 (omega arith), drop-cons ws (suc (suc (suc at))) 0 (omega arith)) (simp towards-suc)
+  pub entry-words : (at : ℕ) → at + width ≤ length ws → words (entryAt ws at) ≡ take width (drop at ws)
+  unfolding readFrom
+  entry-words at h = simp towards-suc (read-part ws width at h)
 
   pub flat-entries : (at n : ℕ) → at + width * n ≤ length ws → flat words (entriesFrom at n ws) ≡ take (width * n) (drop at ws)
   unfolding entriesFrom flat
@@ -65,8 +66,8 @@ module _ (ws : List ℕ) where
 
 -- ---- and back
 
-entry-eq : (e f : Entry) → e .lower .0 ≡ f .lower .0 → e .higher .0 ≡ f .higher .0 → e .shared ≡ f .shared → e .union ≡ f .union → e ≡ f
-entry-eq e f a b c d = λ i. record { lower = context (a i); higher = context (b i); shared = c i; union = d i }
+entry-eq : (e f : Entry) → e .lower .0 ≡ f .lower .0 → e .higher .0 ≡ f .higher .0 → e .shared ≡ f .shared → e .union ≡ f .union → e .code ≡ f .code → e ≡ f
+entry-eq e f a b c d x = λ i. record { lower = context (a i); higher = context (b i); shared = c i; union = d i; code = x i }
 
 pub read-back : (front : List ℕ) (es : List Entry) (behind : List ℕ) → entriesFrom (length front) (length es) (front ++ (flat words es ++ behind)) ≡ es
 unfolding entriesFrom flat
@@ -75,9 +76,9 @@ read-back front (e ∷ es) behind =
     let ws = flat words (e ∷ es) ++ behind in
     let q : front ++ ws ≡ (front ++ words e) ++ (flat words es ++ behind) = sym (append-assoc front (words e) (flat words es ++ behind)) in
     let n : length front + width ≡ length (front ++ words e) = sym (length-append front (words e)) in
-    ap₂ _∷_ (entry-eq (entryAt (front ++ ws) (length front)) e (getD-append-seam front _ _ 0) (getD-append-add front ws 1 0) (getD-append-add front ws 2 0) (getD-append-add front ws 3 0)) (rw (n, q) (read-back (front ++ words e) es behind))
+    ap₂ _∷_ (entry-eq (entryAt (front ++ ws) (length front)) e (getD-append-seam front _ _ 0) (getD-append-add front ws 1 0) (getD-append-add front ws 2 0) (getD-append-add front ws 3 0) (getD-append-add front ws 4 0)) (rw (n, q) (read-back (front ++ words e) es behind))
 
-entries-padded : (n : ℕ) (es : List Entry) → entries (length es) (padded n (flat words es)) ≡ es
+pub entries-padded : (n : ℕ) (es : List Entry) → entries (length es) (padded n (flat words es)) ≡ es
 unfolding padded
 entries-padded n es = read-back [] es (replicate (n - length (flat words es)) 0)
 

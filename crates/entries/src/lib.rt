@@ -14,14 +14,15 @@ use walk::Fraction;
 use walk::below;
 
 // How many words an entry has.
-pub const WIDTH: usize = 4;
+pub const WIDTH: usize = 5;
 
-// A pair on the list: its two contexts, how many codes they share, and how many they have in all.
+// A pair on the list: its two contexts, how many codes they share, how many they have in all, and the first code that they share.
 pub struct Entry {
     pub lower: Context,
     pub higher: Context,
     pub shared: u16,
     pub union: u16,
+    pub code: u16,
 }
 
 // How alike the pair is.
@@ -77,6 +78,7 @@ pub fn entry_at(list: &[u16], i: usize) -> Entry
         higher: Context(list[at + 1]),
         shared: list[at + 2],
         union: list[at + 3],
+        code: list[at + 4],
     }
 }
 
@@ -139,6 +141,7 @@ fn put_entry(list: &mut [u16], at: usize, e: Entry)
     list[at + 1] = e.higher.0;
     list[at + 2] = e.shared;
     list[at + 3] = e.union;
+    list[at + 4] = e.code;
 }
 
 // Lists e among the first `found` entries, and keeps the best k. It answers how many are listed.

@@ -24,19 +24,19 @@ record Case : Type 0 where
 unfoldable case : ℕ → List ℕ → ℕ → ℕ → ℕ → CellAnswer → Case
 case contexts list entries first second answer = record { contexts = contexts; list = list; entries = entries; first = first; second = second; answer = answer }
 
--- an entry's words
-unfoldable entry : ℕ → ℕ → ℕ → ℕ → List ℕ
-entry lower higher shared union = words (record { lower = context lower; higher = context higher; shared = shared; union = union })
+-- an entry's words; no cell looks at its code
+unfoldable entry : ℕ → ℕ → ℕ → ℕ → ℕ → List ℕ
+entry lower higher shared union code = words (record { lower = context lower; higher = context higher; shared = shared; union = union; code = code })
 
--- 'Three' with k = 2: two entries, and here three words of no whole entry behind them
+-- 'Three' with k = 2: two entries, and here four words of no whole entry behind them
 unfoldable three : List ℕ
 unfolding entry
-three = entry 0 1 4 5 ++ entry 1 2 4 5 ++ 9 ∷ 9 ∷ 9 ∷ []
+three = entry 0 1 4 5 2 ++ entry 1 2 4 5 1 ++ 9 ∷ 9 ∷ 9 ∷ 9 ∷ []
 
 -- one pair twice, and a wrong entry behind: its contexts are equal
 unfoldable twice : List ℕ
 unfolding entry
-twice = entry 0 1 1 3 ++ entry 0 1 2 3 ++ entry 2 2 1 1
+twice = entry 0 1 1 3 8 ++ entry 0 1 2 3 7 ++ entry 2 2 1 1 0
 
 unfoldable cases : List Case
 unfolding case entry three twice
@@ -56,11 +56,12 @@ cases =
     ∷ case 2 three 2 0 1 (Refused 17 1)
     ∷ case 2 three 2 1 1 (Refused 17 1)
     ∷ case 3 twice 3 0 1 (Refused 17 2)
-    ∷ case 3 (entry 2 1 1 1) 1 0 1 (Refused 17 0)
-    ∷ case 3 (entry 1 3 1 1) 1 0 1 (Refused 17 0)
-    ∷ case 4 (entry 1 3 1 1) 1 1 3 (Cell (Value (quotient 1 1)))
-    ∷ case 3 (entry 0 1 0 1) 1 0 2 (Refused 17 0)
-    ∷ case 3 (entry 0 1 3 2) 1 0 2 (Refused 17 0)
+    ∷ case 3 (entry 2 1 1 1 0) 1 0 1 (Refused 17 0)
+    ∷ case 3 (entry 1 3 1 1 0) 1 0 1 (Refused 17 0)
+    ∷ case 4 (entry 1 3 1 1 65535) 1 1 3 (Cell (Value (quotient 1 1)))
+    ∷ case 3 (entry 0 1 0 1 0) 1 0 2 (Refused 17 0)
+    ∷ case 3 (entry 0 1 3 2 0) 1 0 2 (Refused 17 0)
+    ∷ case 3 (0 ∷ 1 ∷ 4 ∷ 5 ∷ []) 1 0 1 (Refused 17 0)
     ∷ []
 
 worked : map (λ (c : Case). cellOf (c .contexts) (c .list) (c .entries) (c .first) (c .second)) cases ≡ map (λ (c : Case). c .answer) cases

@@ -1,22 +1,26 @@
 -- Demands 1, 2 and 3 of the join: what its contract says of every call. `Post` is the contract itself, as it is read from the code;
 -- it says `Joins` (specs/Join.antt) by `join-says` (Only.antt), and `Joins` says the demands.
 use mathlib.Core.Bool.{true}
-use mathlib.Core.List.{List, [], _∷_}
+use mathlib.Core.List.{List, [], _∷_, map, map-map}
 use mathlib.Core.Logic.{_↔_}
-use mathlib.Core.Path.{_≡_, sym, _∙_}
+use mathlib.Core.Path.{_≡_, sym, ap, _∙_}
 use Prim.Native.Nat.{ℕ, _≤_, min}
 use lib.ListN.{length}
 use Rattle.order.specs.Order.{_∈_, Distinct, Sorted}
 use Rattle.site.specs.Ratio.{below, reaches}
 use Rattle.site.specs.Measure.{inUse}
-use Rattle.site.specs.Site.{Pair, Shares, sharing, similarity, rankBefore, topOf, listOf}
+use Rattle.site.specs.Site.{Site, Rising, Pair, sharedOf, unionOf, firstCodeOf, SmallestShared, Shares, sharing, similarity, rankBefore, topOf, listOf}
 use Rattle.site.specs.Events.{ceilingOf, cutOff, found, events, met, trailBefore, trail as trailOf}
 use Rattle.site.proofs.Measures.{in-use-lawful}
+use Rattle.site.proofs.Meeting.{first-smallest}
 use Rattle.site.proofs.Best.{list-sorted, list-once, list-shares, list-count, list-best, list-all}
 use Rattle.site.proofs.Trail.{trail-sorted, trail-distinct, in-trail, trail-in, trail-list, off-trail}
 use Rattle.words.specs.Words.{padded}
 use Rattle.words.proofs.OneAnswer.{Says}
 use Rattle.tables.proofs.Sound.{sound-rises}
+use Rattle.entries.specs.Entries.{entryOf, firstFour, entries}
+use Rattle.entries.specs.declared.Entry.{Entry}
+use Rattle.entries.proofs.Listed.{entries-back}
 use Rattle.search.specs.Outcome.{Tells, zeros, threeCounts, listedWords, metWords}
 use Rattle.search.proofs.Answers.{tells-listed}
 use Rattle.join.specs.Join.{JoinCall, callSite, Joins}
@@ -52,13 +56,27 @@ callList c = listOf inUse (callSite c) (c .k)
 abbrev pub callTrail : JoinCall → List Pair
 callTrail c = trailOf inUse (callSite c) (c .k)
 
+-- what stands on the list of a pair: in the first four words its two contexts, how many codes they share, and their union
+abbrev pub firstFourOf : Site → Pair → List ℕ
+firstFourOf site p = p .lower ∷ p .higher ∷ sharedOf site p ∷ unionOf site p ∷ []
+
+-- and in the fifth, which the tables fix, the first code that they share
+abbrev pub fifthOf : Site → Pair → ℕ
+fifthOf site p = firstCodeOf site p
+
 -- ---- demand 2: the list
 
 -- It is the first k of all pairs that share a code, in the order of exact similarity, then of the lower and of the higher context.
+-- That is read over the first four words of the entries; the fifth takes no part in it.
 pub record Demand-2 (c : JoinCall) (f : ℕ) : Type 0 where
   -- its entries stand in the buffer, and zeros behind them; found counts them
   pub held : c .list′ ≡ padded (length (c .list)) (listedWords (c .k) (callSite c))
   pub counted : f ≡ found inUse (callSite c) (c .k)
+  -- read entry by entry, the first four words are those of the pairs listed
+  pub four : map firstFour (entries f (c .list′)) ≡ map (firstFourOf (callSite c)) (callList c)
+  -- and so is the fifth: the smallest code that both contexts have
+  pub fifth : map (λ e. e .code) (entries f (c .list′)) ≡ map (fifthOf (callSite c)) (callList c)
+  pub smallest : (p : Pair) → p ∈ callList c → SmallestShared (callSite c) p (fifthOf (callSite c) p)
   -- each pair listed shares a code, and none is listed twice
   pub shares : (p : Pair) → p ∈ callList c → Shares (callSite c) p
   pub once : Distinct (callList c)
@@ -103,6 +121,10 @@ module _ {c : JoinCall} (j : Joins c) where
   }
 
   module _ {f e m : ℕ} (t : Tells (c .answer) 0 (f ∷ e ∷ m ∷ [])) where
+    -- its site rises
+    R : Rising (callSite c)
+    R = sound-rises (call-accepted (c .k) (c .offsets) (c .codes) (length (c .list)) (length (c .work)) (listed-only j (tells-listed (c .answer) t) .0) .sound)
+
     pub joins-2 : Demand-2 c f
     joins-2 =
         let site = callSite c in
@@ -110,9 +132,13 @@ module _ {c : JoinCall} (j : Joins c) where
         let w = j .found (a .0) (a .1) in
         let told = sym (t .1) ∙ w .told .1 in
         let n : f ≡ found inUse site (c .k) = cc told in
+        let back = entries-back site (callList c) (length (c .list)) n (w .list-holds) in
         record {
           held = w .list-holds;
           counted = n;
+          four = ap (map firstFour) back ∙ map-map firstFour (entryOf site) (callList c);
+          fifth = ap (map (λ (e : Entry). e .code)) back ∙ map-map (λ (e : Entry). e .code) (entryOf site) (callList c);
+          smallest = λ p i. first-smallest R p (list-shares inUse site (c .k) p i .some);
           shares = list-shares inUse site (c .k);
           once = list-once inUse site (c .k);
           sorted = list-sorted inUse site (c .k);
@@ -129,7 +155,6 @@ module _ {c : JoinCall} (j : Joins c) where
         let told = sym (t .1) ∙ w .told .1 in
         let n : m ≡ met inUse site (c .k) = cc told in
         let d : e ≡ events inUse site (c .k) = cc told in
-        let R = sound-rises (call-accepted (c .k) (c .offsets) (c .codes) (length (c .list)) (length (c .work)) (a .0) .sound) in
         record {
           held = w .trail-holds;
           counted = n;

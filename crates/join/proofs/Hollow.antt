@@ -3,7 +3,7 @@
 use mathlib.Core.List.{List, [], _∷_}
 use mathlib.Core.Logic.{_⊎_, ⊎-elim}
 use mathlib.Core.Path.{_≡_, sym, ap, _∙_}
-use Prim.Native.Nat.{ℕ, zero, suc, _≤_}
+use Prim.Native.Nat.{ℕ, zero, suc, _*_, _≤_}
 use native.Mathlib.Nat.{le-of-eq}
 use native.Mathlib.Omega.{arith}
 use lib.ListN.{length, getD, replicate, length-replicate}
@@ -15,6 +15,7 @@ use Rattle.site.specs.Measure.{inUse}
 use Rattle.site.specs.Events.{events, met}
 use Rattle.site.specs.Tables.{siteOf}
 use Rattle.words.specs.Words.{Words16, padded}
+use Rattle.entries.specs.Entries.{width}
 use Rattle.search.specs.Outcome.{Tells, Outcome, outcome}
 use Rattle.search.proofs.Answers.{tells-refused, tells-listed}
 use Rattle.search.specs.declared.Answer.the-variants.{Listed, Refused}
@@ -106,7 +107,7 @@ given c = record { k = c .k; offsets = c .offsets; codes = c .codes; list = junk
 
 junk-words : Words16 junkList × Words16 junkTrail
 unfolding junkList junkTrail
-junk-words = (sevens 16, sevens 7)
+junk-words = (sevens (4 * width), sevens 7)
 
 p3-words : InWords (given p3)
 unfolding p3 table case
@@ -141,18 +142,18 @@ module _ (f : Version) (meets : MeetsContract f) where
 
   -- it gives the same list each time: not on P9 and P3
   pub gives-one-list : (l : List ℕ) → ((i : Given) → InWords i → f i .list ≡ l) → ⊥
-  unfolding told table p3 p9 case padded
+  unfolding told table p3 p9 case padded junkList
   gives-one-list l h =
       let a = sym (h (given p9) p9-words) ∙ ap (λ (o : Outcome). o .list) (as-told p9 p9-words p9-so) in
       let b = sym (h (given p3) p3-words) ∙ ap (λ (o : Outcome). o .list) (as-told p3 p3-words p3-so) in
-      let e : padded 16 [] ≡ padded 16 (0 ∷ 1 ∷ 1 ∷ 1 ∷ []) = sym a ∙ b in
+      let e : padded (length junkList) [] ≡ padded (length junkList) (p3 .listed) = sym a ∙ b in
       let z : _≡_ {A = ℕ} 0 1 = ap (λ (w : List ℕ). getD w 1 0) e in omega arith
 
   -- it does nothing to its buffers: not on P9
   pub leaves-its-buffers : ((i : Given) → InWords i → (f i .list ≡ i .list) × (f i .trail ≡ i .trail)) → ⊥
   unfolding told table p9 case padded junkList
   leaves-its-buffers h =
-      let e : junkList ≡ padded 16 [] = sym (h (given p9) p9-words .0) ∙ ap (λ (o : Outcome). o .list) (as-told p9 p9-words p9-so) in
+      let e : junkList ≡ padded (length junkList) [] = sym (h (given p9) p9-words .0) ∙ ap (λ (o : Outcome). o .list) (as-told p9 p9-words p9-so) in
       let z : _≡_ {A = ℕ} 7 0 = ap (λ (w : List ℕ). getD w 0 0) e in omega arith
 
   -- it invents events or met: on no input

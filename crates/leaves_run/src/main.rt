@@ -6,6 +6,7 @@ ghost use Prim.Native.Nat.{_<_};
 ghost use Rattle.entries.specs.Entries.{Ordered};
 ghost use Rattle.tables.specs.Checks.{checkNumber, checkPlace};
 use entries::Entry;
+use entries::WIDTH;
 use entries::insert;
 use entries::rank_before;
 use site::Context;
@@ -111,7 +112,7 @@ fn say_below(name: &[u8], n: u16, d: u16, m: u16, e: u16) {
     say_two(name, bit(below(a, b)), bit(below(b, a)));
 }
 
-fn entry(lower: u16, higher: u16, shared: u16, union: u16) -> Entry
+fn entry(lower: u16, higher: u16, shared: u16, union: u16, code: u16) -> Entry
     ensures { λ r. ⌜ r .union ≡ union ⌝ }
 {
     Entry {
@@ -119,6 +120,7 @@ fn entry(lower: u16, higher: u16, shared: u16, union: u16) -> Entry
         higher: Context(higher),
         shared,
         union,
+        code,
     }
 }
 
@@ -134,7 +136,7 @@ fn say_insert(name: &[u8], list: &mut [u16], found: usize, e: Entry) -> usize
     if found > 3 {
         return found;
     }
-    if list.len() < 12 {
+    if list.len() < 3 * WIDTH {
         return found;
     }
     let more = insert(list, found, 3, e);
@@ -209,23 +211,23 @@ fn orders() {
     say_below(b"65534/65535_and_65535/65535", 65534, 65535, 65535, 65535);
     say_rank(
         b"rank_99/100_and_100/101",
-        entry(0, 1, 99, 100),
-        entry(2, 3, 100, 101),
+        entry(0, 1, 99, 100, 9),
+        entry(2, 3, 100, 101, 9),
     );
-    say_rank(b"rank_tie_by_lower", entry(1, 2, 1, 2), entry(0, 3, 2, 4));
-    say_rank(b"rank_tie_by_higher", entry(0, 2, 1, 2), entry(0, 3, 2, 4));
+    say_rank(b"rank_tie_by_lower", entry(1, 2, 1, 2, 0), entry(0, 3, 2, 4, 9));
+    say_rank(b"rank_tie_by_higher", entry(0, 2, 1, 2, 9), entry(0, 3, 2, 4, 0));
 }
 
 fn lists() {
-    let mut list = [0; 14];
+    let mut list = [0; 3 * WIDTH + 2];
     let mut n: usize = 0;
-    n = say_insert(b"insert_into_empty", &mut list, n, entry(0, 1, 1, 2));
-    n = say_insert(b"insert_at_end", &mut list, n, entry(3, 4, 1, 4));
-    n = say_insert(b"insert_at_front", &mut list, n, entry(0, 2, 2, 3));
-    n = say_insert(b"insert_in_middle_of_full", &mut list, n, entry(1, 2, 3, 5));
-    n = say_insert(b"insert_beyond_the_third", &mut list, n, entry(2, 3, 1, 3));
-    n = say_insert(b"insert_tie_behind", &mut list, n, entry(0, 3, 2, 4));
-    n = say_insert(b"insert_tie_before", &mut list, n, entry(0, 5, 6, 10));
+    n = say_insert(b"insert_into_empty", &mut list, n, entry(0, 1, 1, 2, 11));
+    n = say_insert(b"insert_at_end", &mut list, n, entry(3, 4, 1, 4, 12));
+    n = say_insert(b"insert_at_front", &mut list, n, entry(0, 2, 2, 3, 13));
+    n = say_insert(b"insert_in_middle_of_full", &mut list, n, entry(1, 2, 3, 5, 14));
+    n = say_insert(b"insert_beyond_the_third", &mut list, n, entry(2, 3, 1, 3, 15));
+    n = say_insert(b"insert_tie_behind", &mut list, n, entry(0, 3, 2, 4, 16));
+    n = say_insert(b"insert_tie_before", &mut list, n, entry(0, 5, 6, 10, 17));
 }
 
 fn main() {

@@ -18,7 +18,7 @@ use Rattle.listing.specs.Answers.{listingBy, bytesOf}
 use Rattle.listing.specs.Calls.{Lists, pageRoom, Prints}
 use Rattle.listing.specs.declared.Listing.{Listing}
 use Rattle.listing.specs.declared.Listing.the-variants as listing
-use Rattle.listing.proofs.Short.{line-short, listing-short}
+use Rattle.listing.proofs.Short.{digits-five, line-short, listing-short}
 use Rattle.listing.proofs.Refusals.{SmallRefusal, refusal-small}
 use Rattle.listing.proofs.Telling.{by-text, by-refused}
 
@@ -91,7 +91,7 @@ page-long e = ap length e ∙ padded-length pageRoom [] zero-le
 -- it has room
 pub refused-short : (n p : ℕ) → n ≤ 65535 → p ≤ 65535 → length (refusedText n p) ≤ pageRoom
 unfolding refusedText
-refused-short n p h k = omega (arith, line-short refusedKey (n ∷ p ∷ []) (h, (k, tt)))
+refused-short n p h k = omega (arith, line-short 5 refusedKey (n ∷ p ∷ []) (digits-five n h, (digits-five p k, tt)))
 
 -- ---- what is printed always fits
 

@@ -11,7 +11,7 @@ use Rattle.site.specs.Site.{listOf}
 use Rattle.site.specs.Events.{found}
 use Rattle.words.specs.Words.{flat, padded, zeroedFrom}
 use Rattle.entries.specs.Entries.{words, entryOf, entries}
-use Rattle.entries.proofs.Reading.{flat-width, entries-held}
+use Rattle.entries.proofs.Listed.{entries-back}
 use Rattle.words.proofs.Words.{held}
 use Rattle.search.specs.Outcome.{listedWords}
 use Rattle.pen.specs.declared.Pen.{Pen}
@@ -62,15 +62,6 @@ text-full cs w e = put-full (added-stop w cs e) e
 
 -- ---- what the join told
 
--- the list that is held is read back
-entries-back : (s : Sheet) {f : ℕ} {list : List ℕ} → found inUse (s .site) (s .k) ≤ 64
-    → f ≡ found inUse (s .site) (s .k) → list ≡ padded listRoom (listedWords (s .k) (s .site))
-    → entries f list ≡ map (entryOf (s .site)) (listOf inUse (s .site) (s .k))
-entries-back s most e l =
-    let es = map (entryOf (s .site)) (listOf inUse (s .site) (s .k)) in
-    let n = length-map (listOf inUse (s .site) (s .k)) (entryOf (s .site)) in
-    entries-held es (e ∙ sym n) (held listRoom (flat words es) (omega (arith, n, flat-width es)) l)
-
 -- ---- the listing of a sheet
 
 module _ (sheet : List ℕ) (room : ℕ) where
@@ -97,7 +88,7 @@ module _ (sheet : List ℕ) (room : ℕ) where
     put-counts {k} {f} {e} {m} q {now} {r} w =
         let c = counted _ (sym (t .answer) ∙ q) in
         let s = c .sheet in
-        let b = entries-back s (found-few (joined-passed (readSheet 257 4096 sheet) (c .is))) (c .found) (t .held s (c .is)) in
+        let b = entries-back (s .site) (listOf inUse (s .site) (s .k)) listRoom (c .found) (t .held s (c .is)) in
         let x : listingLines k f e m (entries f list) ≡ listingText (s .k) (s .site) = λ i. listingLines (c .asked i) (c .found i) (c .events i) (c .met i) (b i) in
         rw (listed-is, c .is) (subst (λ (l : List ℕ). Put (fitted room l) now r) x w)
 

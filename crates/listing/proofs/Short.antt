@@ -1,24 +1,24 @@
 -- A listing never has more than 2,048 bytes, and a refusal's number and place fit the words of its line: so the program never runs out of room.
--- The bounds are crude: a number has at most five digits.
+-- The bounds are crude: an entry's number has at most four digits, any other at most five.
 use mathlib.Core.List.{List, [], _∷_, map}
 use mathlib.Core.List.{List·Memᴰ·head as here, List·Memᴰ·tail as there}
 use mathlib.Core.Path.{_≡_, refl, ap, subst}
-use Prim.Native.Nat.{ℕ, _+_, _*_, _/_, _≤_, _<_}
-use native.Mathlib.Nat.{le-of-eq}
+use Prim.Native.Nat.{ℕ, suc, _+_, _*_, _/_, _≤_, _<_}
+use native.Mathlib.Nat.{le-of-eq, mul-suc}
 use native.Mathlib.Omega.{arith}
-use lib.ListN.{length, length-append}
+use lib.ListN.{length, getD, length-append}
 use borrow.Author.Tests.{lt-ltb, le-ltb}
 use Rattle.order.specs.Order.{_∈_}
 use Rattle.site.specs.Measure.{inUse}
-use Rattle.site.specs.Site.{Site, Rising, Pair, Shares, sizeOf, codesOf, union, listOf}
-use Rattle.site.specs.Events.{found, events, met}
+use Rattle.site.specs.Site.{Site, Rising, Pair, Shares, sizeOf, codesOf, has, union, firstCodeOf, listOf}
+use Rattle.site.specs.Events.{ahead, found, events, met}
 use Rattle.site.specs.Tables.{siteOf, offsetsOf, allCodes}
-use Rattle.site.proofs.Contexts.{first-bound}
+use Rattle.site.proofs.Contexts.{first-bound, first-at}
 use Rattle.site.proofs.Best.{list-shares}
-use Rattle.words.specs.Words.{flat, Words16}
+use Rattle.words.specs.Words.{flat}
 use Rattle.words.proofs.Split.{by-le}
 use Rattle.tables.proofs.Cuts.{site-back}
-use Rattle.tables.proofs.Sound.{contexts-are, size-small, sound-rises}
+use Rattle.tables.proofs.Sound.{contexts-are, size-small, place-small, sound-rises}
 use Rattle.entries.specs.Entries.{words, entryOf}
 use Rattle.sheet.specs.Read.{value}
 use Rattle.sheet.specs.Number.{digitsOf}
@@ -36,20 +36,28 @@ use Rattle.listing.proofs.Passing.{Passed, joined-passed, found-few, ev
 shorter : (j b : ℕ) → ((m : ℕ) → m < b → length (digitsOf m) ≤ j) → (n : ℕ) → n < 10 * b → length (digitsOf n) ≤ j + 1
 shorter j b h n l = by-le 10 n (λ k. omega (arith, length-more n k, h (n / 10) (omega arith))) (λ k. omega (arith, length-one n k))
 
--- a number of a word has at most five digits
-digits-five : (n : ℕ) → n ≤ 65535 → length (digitsOf n) ≤ 5
-digits-five n h = shorter 4 10000 (shorter 3 1000 (shorter 2 100 (shorter 1 10 (λ m l. le-of-eq (length-one m l))))) n (omega arith)
+-- below 10,000 it has at most four digits, and as a word at most five
+digits-four : (n : ℕ) → n < 10000 → length (digitsOf n) ≤ 4
+digits-four = shorter 3 1000 (shorter 2 100 (shorter 1 10 (λ m l. le-of-eq (length-one m l))))
 
--- six bytes a number, with the one behind it
-numbers-short : (ns : List ℕ) → Words16 ns → length (codesText ns) ≤ 6 * length ns
+pub digits-five : (n : ℕ) → n ≤ 65535 → length (digitsOf n) ≤ 5
+digits-five n h = shorter 4 10000 digits-four n (omega arith)
+
+-- numbers of at most j digits
+abbrev pub Digits : ℕ → List ℕ → Type 0
+Digits j [] = Unit {0}
+Digits j (n ∷ ns) = (length (digitsOf n) ≤ j) × Digits j ns
+
+-- each with the byte behind it
+numbers-short : (j : ℕ) (ns : List ℕ) → Digits j ns → length (codesText ns) ≤ suc j * length ns
 unfolding codesText
-numbers-short [] w = omega arith
-numbers-short (n ∷ []) w = omega (arith, digits-five n (w .0))
-numbers-short (n ∷ m ∷ ns) w = rw length-append (omega (arith, digits-five n (w .0), numbers-short (m ∷ ns) (w .1)))
+numbers-short j [] d = omega arith
+numbers-short j (n ∷ []) d = omega (arith, d .0, mul-suc (suc j) 0)
+numbers-short j (n ∷ m ∷ ns) d = rw length-append (omega (arith, d .0, numbers-short j (m ∷ ns) (d .1), mul-suc (suc j) (suc (length ns))))
 
 -- a line with its key and its end
-pub line-short : (key ns : List ℕ) → Words16 ns → length (lineText key ns) ≤ length key + 6 * length ns + 1
-line-short key ns w = omega (arith, line-length key ns, numbers-short ns w)
+pub line-short : (j : ℕ) (key ns : List ℕ) → Digits j ns → length (lineText key ns) ≤ length key + suc j * length ns + 1
+line-short j key ns d = omega (arith, line-length key ns, numbers-short j ns d)
 
 -- ---- the entries of the list
 
@@ -74,21 +82,35 @@ module _ {s : Sheet} (p : Passed s) where
       let z : sizeOf tables i ≡ sizeOf (s .site) i = ap (λ (z : Site). sizeOf z i) b in
       omega (arith, z, size-small (p .sound) i (omega (arith, l, contexts-are (p .sound))))
 
-  -- so an entry's numbers are words
-  entry-words : (q : Pair) → Shares (s .site) q → Words16 (words (entryOf (s .site) q))
+  -- none of them above 4,095
+  code-few : (q : Pair) → Shares (s .site) q → firstCodeOf (s .site) q < 4096
+  code-few q h =
+      let b = site-back [] (s .site) in
+      let xs = codesOf (s .site) (q .lower) in
+      let ys = codesOf (s .site) (q .higher) in
+      let n = ahead (has ys) xs in
+      let l : length tables ≡ length (s .site) = ap (λ (z : Site). length z) b in
+      let w : sizeOf tables (q .lower) ≡ length xs = ap (λ (z : Site). sizeOf z (q .lower)) b in
+      let z : getD (codesOf tables (q .lower)) n 0 ≡ getD xs n 0 = ap (λ (z : Site). getD (codesOf z (q .lower)) n 0) b in
+      let c = place-small (p .sound) (q .lower) n (omega (arith, l, contexts-are (p .sound), h .rising, h .inside)) (omega (arith, w, first-bound xs ys, h .some)) in
+      omega (arith, z, first-at xs ys (h .some), c)
+
+  -- so an entry's numbers have at most four digits
+  entry-digits : (q : Pair) → Shares (s .site) q → Digits 4 (words (entryOf (s .site) q))
   unfolding union
-  entry-words q h =
+  entry-digits q h =
+      let few : (n : ℕ) → n < 10000 → length (digitsOf n) ≤ 4 = digits-four in
       let a = size-few (q .lower) (omega (arith, h .rising, h .inside)) in
       let b = size-few (q .higher) (h .inside) in
       let c = first-bound (codesOf (s .site) (q .lower)) (codesOf (s .site) (q .higher)) in
-      (omega (arith, h .rising, h .inside, contexts-few), (omega (arith, h .inside, contexts-few), (omega arith, (omega arith, tt))))
+      (few _ (omega (arith, h .rising, h .inside, contexts-few)), (few _ (omega (arith, h .inside, contexts-few)), (few _ (omega arith), (few _ (omega arith), (few _ (omega (arith, code-few q h)), tt)))))
 
-  -- 30 bytes a pair
-  pairs-short : (qs : List Pair) → ((q : Pair) → q ∈ qs → Shares (s .site) q) → length (entriesText (map (entryOf (s .site)) qs)) ≤ 30 * length qs
+  -- 31 bytes a pair
+  pairs-short : (qs : List Pair) → ((q : Pair) → q ∈ qs → Shares (s .site) q) → length (entriesText (map (entryOf (s .site)) qs)) ≤ 31 * length qs
   unfolding entriesText flat entryText
   pairs-short [] h = omega arith
   pairs-short (q ∷ qs) h =
-      let w = line-short pairKey (words (entryOf (s .site) q)) (entry-words q (h q (here refl))) in
+      let w = line-short 4 pairKey (words (entryOf (s .site) q)) (entry-digits q (h q (here refl))) in
       rw length-append (omega (arith, w, pairs-short qs (λ r i. h r (there i))))
 
   -- ---- the whole text
@@ -101,10 +123,10 @@ module _ {s : Sheet} (p : Passed s) where
       let e = events-most p in
       let m = p .met in
       let k = p .asked in
-      let a = line-short kKey (s .k ∷ []) (omega arith, tt) in
-      let b = line-short foundKey (found inUse (s .site) (s .k) ∷ []) (omega arith, tt) in
-      let c = line-short eventsKey (events inUse (s .site) (s .k) ∷ []) (omega arith, tt) in
-      let d = line-short metKey (met inUse (s .site) (s .k) ∷ []) (omega arith, tt) in
+      let a = line-short 5 kKey (s .k ∷ []) (digits-five _ (omega arith), tt) in
+      let b = line-short 5 foundKey (found inUse (s .site) (s .k) ∷ []) (digits-five _ (omega arith), tt) in
+      let c = line-short 5 eventsKey (events inUse (s .site) (s .k) ∷ []) (digits-five _ (omega arith), tt) in
+      let d = line-short 5 metKey (met inUse (s .site) (s .k) ∷ []) (digits-five _ (omega arith), tt) in
       let g = pairs-short (listOf inUse (s .site) (s .k)) (list-shares inUse (s .site) (s .k)) in
       rw (length-append, length-append, length-append, length-append) (omega arith)
 

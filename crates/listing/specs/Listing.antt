@@ -42,7 +42,7 @@ refusedKey = 114 ∷ 101 ∷ 102 ∷ 117 ∷ 115 ∷ 101 ∷ 100 ∷ 61 ∷ []
 
 -- ---- the text
 
--- the line of an entry: lower, higher, shared, union
+-- the line of an entry: lower, higher, shared, union, and the first shared code
 unfoldable pub entryText : Entry → List ℕ
 entryText e = lineText pairKey (words e)
 

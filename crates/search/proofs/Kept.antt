@@ -2,16 +2,14 @@
 -- The list is the entries' matter; here are the words of the trail, which are written only where there is room.
 use mathlib.Core.List.{List, [], _∷_, _++_}
 use mathlib.Core.Path.{_≡_, refl, sym, ap, ap₂, _∙_}
-use Prim.Native.Nat.{ℕ, _+_, _-_, _*_, _≤_, _<_, min}
-use native.Mathlib.Nat.{add-comm}
+use Prim.Native.Nat.{ℕ, _+_, _*_, _≤_, _<_, min}
 use native.Mathlib.Omega.{arith}
-use lib.Dec.{ltb}
 use lib.ListN.{length, set, replicate, length-append}
-use Rattle.order.proofs.Lists.{cases}
-use Rattle.site.specs.Site.{Site, Rising, Pair, codesOf, sizeOf, union, sharedOf, unionOf}
+use Rattle.site.specs.Site.{Site, Rising, Pair, codesOf, shared, union, sharedOf, unionOf, firstCodeOf}
 use Rattle.site.specs.Events.{pairOf}
 use Rattle.site.specs.declared.Context.{Context}
-use Rattle.site.proofs.Contexts.{shared-turn}
+use Rattle.site.proofs.Contexts.{shared-turn, union-turn}
+use Rattle.site.proofs.Meeting.{of-pair}
 use Rattle.words.specs.Words.{flat, Begins}
 use Rattle.words.proofs.Words.{flat-append, flat-one, flat-length, begins-two}
 use Rattle.entries.specs.Entries.{entryOf, Inserts}
@@ -33,22 +31,20 @@ kept-start site k {list} e = record { listed = rw e (listed-start site k (length
 -- what two contexts share and have in all does not depend on their order
 module _ {site : Site} (R : Rising site) (c d : Context) where
   pair-shared : sharedOf site (pairOf (contextIs c) (contextIs d)) ≡ sharedBy site c d
-  unfolding pairOf
-  pair-shared = cases (ltb (c .0) (d .0)) (λ t. rw t) (λ f. rw f (shared-turn R (d .0) (c .0)))
+  pair-shared = of-pair site shared (contextIs c) (contextIs d) (shared-turn R (d .0) (c .0))
 
   pair-union : unionOf site (pairOf (contextIs c) (contextIs d)) ≡ union (codesOf site (c .0)) (codesOf site (d .0))
-  unfolding pairOf union
-  pair-union = cases (ltb (c .0) (d .0)) (λ t. rw t) (λ f. rw (f, shared-turn R (d .0) (c .0)) (ap (λ (n : ℕ). n - sharedBy site c d) (add-comm (sizeOf site (d .0)) (sizeOf site (c .0)))))
+  pair-union = of-pair site union (contextIs c) (contextIs d) (union-turn R (d .0) (c .0))
 
   -- the entry that is made is that of the pair
-  pub entry-is : {xs ys : List ℕ} {n m : ℕ} {r : TwoContexts} → xs ≡ codesOf site (c .0) → ys ≡ codesOf site (d .0) → n ≡ sharedBy site c d → m ≡ union xs ys → pairIs r ≡ pairOf (contextIs c) (contextIs d)
-      → _≡_ {A = Entry} (record { lower = r .lower; higher = r .higher; shared = n; union = m }) (entryOf site (pairOf (contextIs c) (contextIs d)))
-  entry-is e f g h q =
+  pub entry-is : {xs ys : List ℕ} {n m x : ℕ} {r : TwoContexts} → xs ≡ codesOf site (c .0) → ys ≡ codesOf site (d .0) → n ≡ sharedBy site c d → x ≡ firstCodeOf site (pairOf (contextIs c) (contextIs d)) → m ≡ union xs ys → pairIs r ≡ pairOf (contextIs c) (contextIs d)
+      → _≡_ {A = Entry} (record { lower = r .lower; higher = r .higher; shared = n; union = m; code = x }) (entryOf site (pairOf (contextIs c) (contextIs d)))
+  entry-is e f g x h q =
       let a = ap (λ (p : Pair). p .lower) q in
       let b = ap (λ (p : Pair). p .higher) q in
       let s = g ∙ sym pair-shared in
       let u = h ∙ ap₂ union e f ∙ sym pair-union in
-      λ i. record { lower = record { 0 = a i }; higher = record { 0 = b i }; shared = s i; union = u i }
+      λ i. record { lower = record { 0 = a i }; higher = record { 0 = b i }; shared = s i; union = u i; code = x i }
 
   -- and where they share a code, its union is not 0
   pub entry-positive : {e : Entry} → e ≡ entryOf site (pairOf (contextIs c) (contextIs d)) → 0 < sharedBy site c d → 0 < e .union

@@ -9,7 +9,7 @@ ghost use Prim.Native.Nat.{_+_, _*_, _≤_, _<_};
 ghost use lib.ListN.{length, getElem?};
 ghost use Rattle.site.specs.Measure.{inUse};
 ghost use Rattle.site.specs.Ratio.{reaches};
-ghost use Rattle.site.specs.Site.{codesOf, Pair};
+ghost use Rattle.site.specs.Site.{codesOf, Pair, firstCodeOf};
 ghost use Rattle.site.specs.Events.{Occurs, codeAt, ceilingAt, cutOf, pairOf, metAfter};
 ghost use Rattle.site.specs.Tables.{siteAt, siteIn};
 ghost use Rattle.tables.specs.Sound.{Sound};
@@ -143,11 +143,19 @@ fn ordered(a: Context, b: Context) -> TwoContexts
     }
 }
 
-// The entry of two contexts that share so many codes.
-fn entry_of(offsets: &[u16], codes: &[u16], c: Context, d: Context, shared: u16) -> Entry
+// The entry of two contexts that share so many codes, this one first.
+fn entry_of(
+    offsets: &[u16],
+    codes: &[u16],
+    c: Context,
+    d: Context,
+    shared: u16,
+    code: u16,
+) -> Entry
     requires { ⌜ Sound (now offsets) (now codes) ⌝ }
     requires { ⌜ (c .0 + 1 < length (now offsets)) × (d .0 + 1 < length (now offsets)) ⌝ }
     requires { ⌜ shared ≡ sharedBy (siteIn offsets codes) c d ⌝ }
+    requires { ⌜ code ≡ firstCodeOf (siteIn offsets codes) (pairOf (contextIs c) (contextIs d)) ⌝ }
     ensures { λ r. ⌜ r ≡ entryOf (siteAt offsets codes) (pairOf (contextIs c) (contextIs d)) ⌝ }
 {
     let xs = context(offsets, codes, c);
@@ -161,6 +169,7 @@ fn entry_of(offsets: &[u16], codes: &[u16], c: Context, d: Context, shared: u16)
         higher,
         shared,
         union,
+        code,
     }
 }
 
@@ -327,7 +336,7 @@ fn step(
         return Progress { counts, marked };
     }
     note_pair(offsets, codes, work, c, d);
-    let e = entry_of(offsets, codes, c, d, shared);
+    let e = entry_of(offsets, codes, c, d, shared, code);
     let more = enter(k, list, trail, counts, e);
     Progress {
         counts: more,
