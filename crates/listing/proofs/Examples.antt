@@ -5,7 +5,7 @@ use Prim.Native.Nat.{ℕ}
 use Rattle.order.specs.Order.{keep, kth, sortBy, insertBy, _thenBy_}
 use Rattle.site.specs.Ratio.{_over_, below, lesser, reaches}
 use Rattle.site.specs.Measure.{jaccard}
-use Rattle.site.specs.Site.{has, upTo, grid, common, shared, union, pairsOf, sharing, numbersBefore, rankBefore, ranked, topOf}
+use Rattle.site.specs.Site.{has, upTo, grid, common, shared, firstCode, union, pairsOf, sharing, numbersBefore, rankBefore, ranked, topOf}
 use Rattle.site.specs.Events.{ahead, eventsIn, eventBefore, eventsOf, later, earlier, ceilingOf, trailBefore, cutOf, eventsReaching, pairsReaching, trail}
 use Rattle.site.specs.Tables.{offsetsFrom, allCodes}
 use Rattle.words.specs.Words.{flat}
@@ -25,7 +25,7 @@ three = 107 ∷ 61 ∷ 49 ∷ 10 ∷ 99 ∷ 111 ∷ 110 ∷ 116 ∷ 101 ∷ 120 
 
 -- and its listing
 threeListing : List ℕ
-threeListing = 107 ∷ 61 ∷ 49 ∷ 10 ∷ 102 ∷ 111 ∷ 117 ∷ 110 ∷ 100 ∷ 61 ∷ 49 ∷ 10 ∷ 101 ∷ 118 ∷ 101 ∷ 110 ∷ 116 ∷ 115 ∷ 61 ∷ 52 ∷ 10 ∷ 109 ∷ 101 ∷ 116 ∷ 61 ∷ 50 ∷ 10 ∷ 112 ∷ 97 ∷ 105 ∷ 114 ∷ 61 ∷ 48 ∷ 32 ∷ 49 ∷ 32 ∷ 52 ∷ 32 ∷ 53 ∷ 10 ∷ []
+threeListing = 107 ∷ 61 ∷ 49 ∷ 10 ∷ 102 ∷ 111 ∷ 117 ∷ 110 ∷ 100 ∷ 61 ∷ 49 ∷ 10 ∷ 101 ∷ 118 ∷ 101 ∷ 110 ∷ 116 ∷ 115 ∷ 61 ∷ 52 ∷ 10 ∷ 109 ∷ 101 ∷ 116 ∷ 61 ∷ 50 ∷ 10 ∷ 112 ∷ 97 ∷ 105 ∷ 114 ∷ 61 ∷ 48 ∷ 32 ∷ 49 ∷ 32 ∷ 52 ∷ 32 ∷ 53 ∷ 32 ∷ 50 ∷ 10 ∷ []
 
 -- a code twice in one context
 twice : List ℕ
@@ -50,8 +50,8 @@ case s r t p = record { sheet = s; room = r; told = t; prints = p }
 table : List Case
 table =
     case three 2048 (value threeListing) threeListing
-    ∷ case three 40 (value threeListing) threeListing
-    ∷ case three 39 (refused 12 0) (114 ∷ 101 ∷ 102 ∷ 117 ∷ 115 ∷ 101 ∷ 100 ∷ 61 ∷ 49 ∷ 50 ∷ 32 ∷ 48 ∷ 10 ∷ [])  -- refused=12 0
+    ∷ case three 42 (value threeListing) threeListing
+    ∷ case three 41 (refused 12 0) (114 ∷ 101 ∷ 102 ∷ 117 ∷ 115 ∷ 101 ∷ 100 ∷ 61 ∷ 49 ∷ 50 ∷ 32 ∷ 48 ∷ 10 ∷ [])  -- refused=12 0
     ∷ case twice 2048 (refused 5 1) (114 ∷ 101 ∷ 102 ∷ 117 ∷ 115 ∷ 101 ∷ 100 ∷ 61 ∷ 53 ∷ 32 ∷ 49 ∷ 10 ∷ [])  -- refused=5 1
     ∷ case twice 0 (refused 5 1) (114 ∷ 101 ∷ 102 ∷ 117 ∷ 115 ∷ 101 ∷ 100 ∷ 61 ∷ 53 ∷ 32 ∷ 49 ∷ 10 ∷ [])
     ∷ case more 2048 (refused 9 15) (114 ∷ 101 ∷ 102 ∷ 117 ∷ 115 ∷ 101 ∷ 100 ∷ 61 ∷ 57 ∷ 32 ∷ 49 ∷ 53 ∷ 10 ∷ [])  -- refused=9 15
@@ -59,7 +59,7 @@ table =
 
 -- each is listed or refused as it should be
 listings : map (λ c. listingIn (c .room) (c .sheet)) table ≡ map (λ c. c .told) table
-unfolding three threeListing twice more case table lineText entryText entriesText countsText listingText refusedText joined listed listingOf fitted listingIn printed behind codesRead contextOf line nothing linesOf readSheet codesText onFirst split digitsF digitsOf valueFrom digitRun mostDigits digitsIn numberOf sizesCheck tablesCheck earliest firstOf offsetRule endRule codeRule codeRuleBy member flat offsetsFrom allCodes jaccard _over_ below lesser reaches keep kth sortBy insertBy _thenBy_ has upTo grid common shared union pairsOf sharing numbersBefore rankBefore ranked topOf ahead eventsIn eventBefore eventsOf later earlier ceilingOf trailBefore cutOf eventsReaching pairsReaching trail
+unfolding three threeListing twice more case table lineText entryText entriesText countsText listingText refusedText joined listed listingOf fitted listingIn printed behind codesRead contextOf line nothing linesOf readSheet codesText onFirst split digitsF digitsOf valueFrom digitRun mostDigits digitsIn numberOf sizesCheck tablesCheck earliest firstOf offsetRule endRule codeRule codeRuleBy member flat offsetsFrom allCodes jaccard _over_ below lesser reaches keep kth sortBy insertBy _thenBy_ has upTo grid common shared firstCode union pairsOf sharing numbersBefore rankBefore ranked topOf ahead eventsIn eventBefore eventsOf later earlier ceilingOf trailBefore cutOf eventsReaching pairsReaching trail
 listings = refl
 
 -- and what is printed of it
