@@ -1,8 +1,8 @@
 -- What the package promises: the three demands and the heat map, each of every call that meets the contract in the code.
 -- `Post` is a call's contract itself, as it is read from the code: of its arguments a, its answer u and its buffers x at exit.
 -- `Says n ps r Post C` is: every call that meets that contract has C. That the code meets its contracts is what the kit checks.
-use mathlib.Core.List.{[], _∷_}
-use mathlib.Core.Path.{sym, _∙_}
+use mathlib.Core.List.{[], _∷_, map}
+use mathlib.Core.Path.{sym, ap, _∙_}
 use Prim.Native.Nat.{ℕ, _+_}
 use lib.ListN.{take}
 use contract.Lifetimes.{Lfts}
@@ -26,13 +26,15 @@ use Rattle.writer.proofs.Only.{write-says}
 use Rattle.writer.proofs.write.Kinds as write-kinds
 use Rattle.writer.proofs.write.Reads as write
 use Rattle.trip.proofs.Trips.{sheet-back, tables-trip}
+use Rattle.entries.specs.Entries.{firstFour, entries}
 use Rattle.heat.specs.Answers.{cellOf}
 use Rattle.heat.proofs.Only.{cellCall, cell-of-says}
 use Rattle.heat.proofs.Mapped.{turned}
+use Rattle.heat.proofs.Unseen.{unseen}
 use Rattle.heat.proofs.cell_of.Kinds as cell-of-kinds
 use Rattle.heat.proofs.cell_of.Reads as cell-of
 use Rattle.demands.specs.Sheets.{ReadCall, WriteCall, ReadRefuses, WriteRefuses, SheetBack, TablesBack}
-use Rattle.demands.specs.Heat.{CellRefuses, MapsList, Rounds, InRange, BothWays}
+use Rattle.demands.specs.Heat.{CellRefuses, MapsList, Rounds, InRange, BothWays, FifthUnseen}
 use Rattle.demands.proofs.Refusing.{read-refuses, write-refuses, cell-refuses}
 use Rattle.demands.proofs.Mapping.{map-cell, map-rounds, map-range}
 
@@ -136,3 +138,13 @@ pub both-ways : (κs κs′ : Lfts 1) (a : Dens κs cell-of-kinds.ps) (b : Dens 
     → cell-of.Post κs a u x → cell-of.Post κs′ b v y → BothWays (cellCall κs a u) (cellCall κs′ b v)
 both-ways κs κs′ a b u v x y p q n l k s t A B =
     p ∙ turned _ _ _ _ _ A B ∙ (λ i. cellOf (n i) (l i) (k i) (t i) (s i)) ∙ sym q
+
+-- and two whose lists differ in no entry's first four words
+pub fifth-unseen : (κs κs′ : Lfts 1) (a : Dens κs cell-of-kinds.ps) (b : Dens κs′ cell-of-kinds.ps)
+    (u : resT cell-of-kinds.r κs .Denot) (v : resT cell-of-kinds.r κs′ .Denot)
+    (x : AtExit (endedOf 1 cell-of-kinds.ps cell-of-kinds.r) κs) (y : AtExit (endedOf 1 cell-of-kinds.ps cell-of-kinds.r) κs′)
+    → cell-of.Post κs a u x → cell-of.Post κs′ b v y → FifthUnseen (cellCall κs a u) (cellCall κs′ b v)
+fifth-unseen κs κs′ a b u v x y p q n k s t l four =
+    let four′ = four ∙ ap (λ (j : ℕ). map firstFour (entries j (b .1 .0 .now))) (sym k) in
+    p ∙ unseen (a .1 .1 .0) (a .1 .0 .now) (b .1 .0 .now) four′ (a .0) (a .1 .1 .1 .0 .0) (a .1 .1 .1 .1 .0 .0) l
+    ∙ (λ i. cellOf (n i) (b .1 .0 .now) (k i) (s i) (t i)) ∙ sym q

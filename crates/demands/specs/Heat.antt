@@ -1,5 +1,5 @@
 -- What the call for one cell owes: demand 1, its refusals; and the heat map, the cells of the list that a join left.
-use mathlib.Core.List.{[], _∷_}
+use mathlib.Core.List.{[], _∷_, map}
 use mathlib.Core.Logic.{_↔_}
 use mathlib.Core.Path.{_≡_}
 use Prim.Native.Nat.{ℕ, _*_, _<_}
@@ -8,7 +8,7 @@ use lib.Ieee.{Float, lt, le}
 use lib.ListN.{length, take}
 use Rattle.order.specs.Order.{_∈_}
 use Rattle.site.specs.Site.{Site, Pair, sharedOf, unionOf}
-use Rattle.entries.specs.Entries.{width}
+use Rattle.entries.specs.Entries.{width, firstFour}
 use Rattle.search.specs.Outcome.{Tells}
 use Rattle.join.specs.Join.{JoinCall, callSite}
 use Rattle.join.proofs.Demands.{callList}
@@ -71,3 +71,10 @@ abbrev pub BothWays : CellCall → CellCall → Type 0
 BothWays c d =
     c .contexts ≡ d .contexts → c .list ≡ d .list → c .entries ≡ d .entries → c .first ≡ d .second → c .second ≡ d .first
     → c .first < c .contexts → c .second < c .contexts → c .answer ≡ d .answer
+
+-- Two cells of the same two contexts, of lists as long whose counted entries have the same first four words: both answers are the
+-- same. So the fifth word is not looked at.
+abbrev pub FifthUnseen : CellCall → CellCall → Type 0
+FifthUnseen c d =
+    c .contexts ≡ d .contexts → c .entries ≡ d .entries → c .first ≡ d .first → c .second ≡ d .second
+    → length (c .list) ≡ length (d .list) → map firstFour (cellEntries c) ≡ map firstFour (cellEntries d) → c .answer ≡ d .answer

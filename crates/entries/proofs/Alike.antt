@@ -1,8 +1,9 @@
 -- The order of entries is that of their pairs: cross products of positive denominators are the order of similarities.
 -- So among entries of positive unions it ranks.
 use mathlib.Core.Bool.{Bool, true, false}
-use mathlib.Core.Path.{_≡_, refl, sym, ap₂, _∙_}
-use Prim.Native.Nat.{_<_}
+use mathlib.Core.List.{List}
+use mathlib.Core.Path.{_≡_, refl, sym, ap, ap₂, _∙_}
+use Prim.Native.Nat.{ℕ, _<_}
 use native.Mathlib.Omega.{arith}
 use Rattle.order.specs.Order.{Ranks, _thenBy_, by}
 use Rattle.order.proofs.Orders.{ltb-orders, not-after-trans, by-ranks, then-first, then-after, then-tied, then-agrees, then-ranks}
@@ -16,7 +17,7 @@ use Rattle.site.proofs.Contexts.{first-bound, shared-le}
 use Rattle.walk.specs.declared.Fraction.{Fraction}
 use Rattle.walk.specs.Fractions.{ratioOf, lower}
 use Rattle.walk.proofs.Fractions.{lower-below}
-use Rattle.entries.specs.Entries.{entryOf, entryPair, similarityOf, moreAlike, entryBefore}
+use Rattle.entries.specs.Entries.{entryOf, entryPair, firstFour, entryAt, similarityOf, moreAlike, entryBefore}
 use Rattle.entries.specs.declared.Entry.{Entry}
 
 -- ---- what `rank_before` tells
@@ -42,6 +43,17 @@ module _ (e f : Entry) {s t : Fraction} (p : s ≡ similarityOf e) (q : t ≡ si
     pub rank-tied : {n : Bool} → u ≡ false → n ≡ numbersBefore (entryPair e) (entryPair f) → n ≡ entryBefore e f
     unfolding entryBefore
     rank-tied w o = o ∙ sym (then-tied _ _ e f (sym more ∙ z) (sym less ∙ w))
+
+-- ---- the first four words alone
+
+-- they fix an entry's place in the order, whatever the fifth is
+pub four-order : (e f g h : Entry) → firstFour e ≡ firstFour g → firstFour f ≡ firstFour h → entryBefore e f ≡ entryBefore g h
+unfolding entryBefore moreAlike
+four-order e f g h a b =
+    let s = ap (λ (ws : List ℕ). similarityOf (entryAt ws 0)) a in
+    let t = ap (λ (ws : List ℕ). similarityOf (entryAt ws 0)) b in
+    then-agrees _ _ _ _ e f g h (ap₂ lower t s) (ap₂ lower s t)
+    (ap₂ numbersBefore (ap (λ (ws : List ℕ). entryPair (entryAt ws 0)) a) (ap (λ (ws : List ℕ). entryPair (entryAt ws 0)) b))
 
 -- ---- entries of positive unions
 

@@ -18,3 +18,5 @@ pub mod Refusing
 pub mod Examples
 -- cells turned round, and the cells of a join's list
 pub mod Mapped
+-- the fifth word of an entry is not looked at
+pub mod Unseen

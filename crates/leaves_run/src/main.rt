@@ -214,8 +214,16 @@ fn orders() {
         entry(0, 1, 99, 100, 9),
         entry(2, 3, 100, 101, 9),
     );
-    say_rank(b"rank_tie_by_lower", entry(1, 2, 1, 2, 0), entry(0, 3, 2, 4, 9));
-    say_rank(b"rank_tie_by_higher", entry(0, 2, 1, 2, 9), entry(0, 3, 2, 4, 0));
+    say_rank(
+        b"rank_tie_by_lower",
+        entry(1, 2, 1, 2, 0),
+        entry(0, 3, 2, 4, 9),
+    );
+    say_rank(
+        b"rank_tie_by_higher",
+        entry(0, 2, 1, 2, 9),
+        entry(0, 3, 2, 4, 0),
+    );
 }
 
 fn lists() {
@@ -224,8 +232,18 @@ fn lists() {
     n = say_insert(b"insert_into_empty", &mut list, n, entry(0, 1, 1, 2, 11));
     n = say_insert(b"insert_at_end", &mut list, n, entry(3, 4, 1, 4, 12));
     n = say_insert(b"insert_at_front", &mut list, n, entry(0, 2, 2, 3, 13));
-    n = say_insert(b"insert_in_middle_of_full", &mut list, n, entry(1, 2, 3, 5, 14));
-    n = say_insert(b"insert_beyond_the_third", &mut list, n, entry(2, 3, 1, 3, 15));
+    n = say_insert(
+        b"insert_in_middle_of_full",
+        &mut list,
+        n,
+        entry(1, 2, 3, 5, 14),
+    );
+    n = say_insert(
+        b"insert_beyond_the_third",
+        &mut list,
+        n,
+        entry(2, 3, 1, 3, 15),
+    );
     n = say_insert(b"insert_tie_behind", &mut list, n, entry(0, 3, 2, 4, 16));
     n = say_insert(b"insert_tie_before", &mut list, n, entry(0, 5, 6, 10, 17));
 }

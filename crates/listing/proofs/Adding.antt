@@ -7,8 +7,8 @@ use lib.ListN.{length, getD, take, drop}
 use Rattle.words.specs.Words.{flat}
 use Rattle.words.proofs.Words.{flat-append, flat-one}
 use Rattle.entries.specs.declared.Entry.{Entry}
-use Rattle.entries.specs.Entries.{width, words, entryAt, entriesFrom, entries}
-use Rattle.entries.proofs.Reading.{length-entries, flat-entries, entries-at}
+use Rattle.entries.specs.Entries.{width, words, entryAt, entries}
+use Rattle.entries.proofs.Reading.{length-entries, entry-words, entries-at}
 use Rattle.sheet.specs.Text.{lineText}
 use Rattle.pen.specs.declared.Pen.{Pen}
 use Rattle.pen.specs.Lines.{Fits, Lined}
@@ -24,18 +24,13 @@ pub entries-grow : Grows entriesText (λ i. entryText)
 unfolding entriesText flat
 entries-grow = record { none = refl; snoc = λ es e. flat-append entryText es (e ∷ []) ∙ ap (λ (t : List ℕ). entriesText es ++ t) (flat-one entryText e) }
 
--- the words of an entry are a part of the list
-entry-part : (ws : List ℕ) (at : ℕ) → at + width ≤ length ws → words (entryAt ws at) ≡ take width (drop at ws)
-unfolding entriesFrom
-entry-part ws at h = sym (flat-one words (entryAt ws at)) ∙ flat-entries ws at 1 h
-
--- and so is its line
+-- the line of an entry is that of a part of the list
 entry-line : (ws : List ℕ) (n i : ℕ) (d : Entry) → i < n → width * n ≤ length ws → lineText pairKey (take (width * i + width - width * i) (drop (width * i) ws)) ≡ entryText (getD (entries n ws) i d)
 unfolding entryText
 entry-line ws n i d h l =
     let k : width * i + width - width * i ≡ width = omega arith in
     let e : entryAt ws (width * i) ≡ getD (entries n ws) i d = sym (entries-at ws n i d h) in
-    ap (λ (j : ℕ). lineText pairKey (take j (drop (width * i) ws))) k ∙ ap (lineText pairKey) (sym (entry-part ws (width * i) (omega arith))) ∙ ap (λ (x : Entry). lineText pairKey (words x)) e
+    ap (λ (j : ℕ). lineText pairKey (take j (drop (width * i) ws))) k ∙ ap (lineText pairKey) (sym (entry-words ws (width * i) (omega arith))) ∙ ap (λ (x : Entry). lineText pairKey (words x)) e
 
 -- the lines of i entries are written, of n entries in the list, and the pen q is behind them
 pub record Rows (list : List ℕ) (n : ℕ) (old now : List ℕ) (p q : Pen) (i : ℕ) : Type 0 where

@@ -1,22 +1,19 @@
 -- The listing at the front of the lent text: its answer, the refusals before it, and zeros behind it.
-use mathlib.Core.List.{List, _++_, map}
+use mathlib.Core.List.{List, _++_}
 use mathlib.Core.Path.{_≡_, refl, sym, ap, ap₂, subst, _∙_}
 use Prim.Native.Nat.{ℕ, _-_, _≤_, _<_}
 use native.Mathlib.Nat.{zero-add}
 use native.Mathlib.Omega.{arith}
-use lib.ListN.{length, take, replicate, length-map}
+use lib.ListN.{length, take, replicate}
 use borrow.Author.Tests.{lt-ltb, le-ltb}
 use Rattle.site.specs.Measure.{inUse}
 use Rattle.site.specs.Site.{listOf}
-use Rattle.site.specs.Events.{found}
-use Rattle.words.specs.Words.{flat, padded, zeroedFrom}
-use Rattle.entries.specs.Entries.{words, entryOf, entries}
+use Rattle.words.specs.Words.{padded, zeroedFrom}
+use Rattle.entries.specs.Entries.{entries}
 use Rattle.entries.proofs.Listed.{entries-back}
-use Rattle.words.proofs.Words.{held}
-use Rattle.search.specs.Outcome.{listedWords}
 use Rattle.pen.specs.declared.Pen.{Pen}
 use Rattle.sheet.specs.Read.{Read, value, refused, _then_}
-use Rattle.sheet.specs.Reading.{Sheet, readSheet}
+use Rattle.sheet.specs.Reading.{readSheet}
 use Rattle.sheet.proofs.Tables.{front-fits}
 use Rattle.listing.specs.Listing.{listingLines, listingText, joined, listed, listingOf, fitted, listingIn}
 use Rattle.listing.specs.Answers.{listingBy, bytesOf}
@@ -26,7 +23,7 @@ use Rattle.pen.specs.Lines.{frontPen}
 use Rattle.listing.specs.Calls.{Lists}
 use Rattle.pen.proofs.Added.{added-stop}
 use Rattle.listing.proofs.Telling.{by-text, by-refused}
-use Rattle.listing.proofs.Passing.{counts-refused, counted, joined-passed, found-few}
+use Rattle.listing.proofs.Passing.{counts-refused, counted}
 use Rattle.listing.specs.declared.Listing.{Listing}
 use Rattle.listing.specs.declared.Listing.the-variants as listing
 use Rattle.listing.specs.declared.Joined.{Joined}
