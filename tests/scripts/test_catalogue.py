@@ -845,15 +845,25 @@ class Examples(Trial):
 
     def test_what_the_pages_say_of_the_last_column(self):
         site = self.catalogue()
-        self.assertEqual(rarest_shared(site, "Grave 1 (man, rich)", "Grave 2 (man)"), "Sword, double-edged")
-        owners = [name for name, types in site.items() if "Sword, double-edged" in types]
-        self.assertEqual(owners, ["Grave 1 (man, rich)", "Grave 2 (man)"])
-        # 101 is the lowest code, so the first column: a bowl that all four men have
-        bowl = read_table(ROOT / "examples/cemetery.csv")[0][1]
-        self.assertEqual((min(set().union(*self.sheet)), "bowl" in bowl.lower()), (101, True))
-        self.assertTrue(all(bowl in list(site.values())[man] for man in (0, 1, 7, 10)))
+        men = [name for number, name in enumerate(site) if number in (0, 1, 7, 10)]
+        self.assertEqual(rarest_shared(site, *men[:2]), "Sword, double-edged")
+        self.assertEqual([name for name, types in site.items() if "Sword, double-edged" in types], men[:2])
+        self.assertIn("bowl", self.kinds()[101].lower())
+        self.assertTrue(all(self.kinds()[101] in site[man] for man in men))
         child, few = "Grave 7 (child)", 'Grave 13 ("few finds")'
         self.assertEqual((len(site[child] & site[few]), rarest_shared(site, child, few)), (4, "Cooking pot, coarse"))
+
+    def kinds(self):
+        """The catalogue's name of each code of the stored sheet: its columns are in the order of these."""
+        return dict(zip(sorted(set().union(*self.sheet)), read_table(ROOT / "examples/cemetery.csv")[0][1:]))
+
+    def test_other_numbers_other_types(self):
+        """Nearly every line of the lesson's last table has another type than the same line of its first listing."""
+        site, kinds = self.catalogue(), self.kinds()
+        names = list(site)
+        pairs = pairs_in((ROOT / "examples/cemetery.listing").read_bytes())
+        kept = [pair for pair in pairs if kinds[pair[4]] == rarest_shared(site, names[pair[0]], names[pair[1]])]
+        self.assertEqual([pair[:2] for pair in kept], [(6, 9)])
 
     def test_page(self):
         """docs/CATALOGUES.md prints what it says; the program and the library for C are built already."""
