@@ -11,13 +11,13 @@ Status: 0 fine; 1 this is not a listing; 2 a file cannot be read or written, or 
 import sys
 
 from files import Fault, files_named, listing_of, put, told
-from listings import by_count
+from listings import by_count, line_of
 
 
 def main(arguments):
     try:
         (file,) = files_named(arguments, 1, __doc__)
-        put("".join("pair={} {} {} {}\n".format(*pair) for pair in by_count(listing_of(file).pairs)))
+        put("".join(map(line_of, by_count(listing_of(file).pairs))))
     except Fault as fault:
         return told(fault)
     return 0

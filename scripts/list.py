@@ -24,6 +24,7 @@ import subprocess
 import sys
 from pathlib import Path
 
+from listings import NoListing, listing_in
 from refusals import LIMIT, Sheet, refusal_words
 from shown_text import shown
 
@@ -43,7 +44,6 @@ FAULTS = {
     errno.ENOSPC: "the disk is full; make room and try again",
     errno.EPIPE: "the program that should read it has gone",
 }
-LISTING = re.compile(rb"k=\d+\nfound=(\d{1,9})\nevents=\d+\nmet=\d+\n((?:pair=\d+ \d+ \d+ \d+\n)*)")
 REFUSED = re.compile(rb"refused=(\d{1,9}) (\d{1,9})\n")
 
 
@@ -116,16 +116,24 @@ def write_listing(sheet, printed):
         raise Trouble(f"{sheet.name}: the listing cannot be written to standard output: {reason(error)}") from error
 
 
+def is_listing(printed):
+    try:
+        listing_in(printed.decode("latin-1"))
+    except NoListing:
+        return False
+    return True
+
+
 def status_of(sheet, run):
     """0 for a listing, 1 for a refusal, which is told in words."""
     if run.returncode:
         how = f"with status {run.returncode}" if run.returncode > 0 else f"by signal {-run.returncode}"
         raise Trouble(f"{sheet.name}: the program ended {how}, so do not use what it printed; {AGAIN}")
-    refused, listing = REFUSED.fullmatch(run.stdout), LISTING.fullmatch(run.stdout)
+    refused = REFUSED.fullmatch(run.stdout)
     if refused:
         tell(refusal_words(sheet, int(refused[1]), int(refused[2])))
         return 1
-    if listing and int(listing[1]) == listing[2].count(b"\n"):
+    if is_listing(run.stdout):
         return 0
     raise Trouble(f"{sheet.name}: the program printed neither a listing nor a refusal; {AGAIN}")
 

@@ -1,4 +1,4 @@
-"""Reads listings. The one place that knows how a listing reads, for every script that takes one."""
+"""Reads listings and writes pairs. The one place that knows how a listing reads, for every script that takes one."""
 import re
 from collections import namedtuple
 
@@ -6,8 +6,12 @@ from collections import namedtuple
 MOST_BYTES = 2048
 NUMBER = r"(0|[1-9][0-9]{0,4})"
 HEADS = ("k", "found", "events", "met")
+HIGHEST_CODE = 4095
 
-Pair = namedtuple("Pair", "lower higher shared union")
+# The numbers of a `pair=` line, in their order; the last is the first shared code.
+Pair = namedtuple("Pair", "lower higher shared union code")
+# Before version 2.0.0 it had no code.
+OLD_NUMBERS = len(Pair._fields) - 1
 Listing = namedtuple("Listing", "k found events met pairs")
 
 
@@ -24,11 +28,32 @@ def no_listing(lines, line, why):
     return NoListing(f"this is not a listing: {why}, and here is {found}.", line)
 
 
+def numbers_of(line, count):
+    """The numbers of a `pair=` line that has so many, or None."""
+    numbers = re.fullmatch("pair=" + " ".join([NUMBER] * count), line)
+    return list(map(int, numbers.groups())) if numbers else None
+
+
 def pair_of(line):
     """The pair of a `pair=` line, or None."""
-    numbers = re.fullmatch(f"pair={NUMBER} {NUMBER} {NUMBER} {NUMBER}", line)
-    pair = Pair(*map(int, numbers.groups())) if numbers else None
-    return pair if pair and pair.lower < pair.higher and 0 < pair.shared <= pair.union else None
+    numbers = numbers_of(line, len(Pair._fields))
+    pair = Pair(*numbers) if numbers else None
+    sound = pair and pair.lower < pair.higher and 0 < pair.shared <= pair.union and pair.code <= HIGHEST_CODE
+    return pair if sound else None
+
+
+def line_of(pair):
+    """The `pair=` line of a pair."""
+    return f"pair={' '.join(map(str, pair))}\n"
+
+
+def no_pair(lines, line, found):
+    """Why no pair stands in a line. One that is only old is told from one that is spoilt."""
+    if line <= len(lines) and numbers_of(lines[line - 1], OLD_NUMBERS):
+        return NoListing(f"this is a line of an older version, with four numbers: {ascii(lines[line - 1])}. "
+                         "List the sheet again.", line)
+    wanted = "two contexts, shared, union, first shared code"
+    return no_listing(lines, line, f"found={found}, so a pair belongs here: {wanted}")
 
 
 def ahead(one, other):
@@ -54,7 +79,7 @@ def pairs_of(lines, found):
     for line in range(len(HEADS) + 1, len(HEADS) + found + 1):
         pair = pair_of(lines[line - 1]) if line <= len(lines) else None
         if pair is None:
-            raise no_listing(lines, line, f"found={found}, so a pair belongs here: two contexts, shared, union")
+            raise no_pair(lines, line, found)
         if pair[:2] in seen:
             raise no_listing(lines, line, "a pair stands once in it")
         if pairs and not ahead(pairs[-1], pair):

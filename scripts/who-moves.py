@@ -7,10 +7,11 @@
 Writes a row a pair, in the order of shared counts (ties as in by-shared.py): the rank by count, the rank by
 ratio, how far the pair moved between the two (+ is up, - is down), with DOUBLED the rank by ratio after
 doubling, then the pair's contexts, and its shared and union counts. Lines below the table say what else is
-to be known; with DOUBLED the last one says whether anybody moved from ratio to doubled.
+to be known; with DOUBLED the last one says whether anybody moved from ratio to doubled. Code c becomes 2c
+and 2c + 1, so the counts and the first shared code of each pair must be exactly twice what they were.
 
-Status: 0 fine; 1 not a listing, or with DOUBLED: somebody moved, or a pair has not exactly twice its counts;
-2 a file cannot be read or written, or wrong usage.
+Status: 0 fine; 1 not a listing, or with DOUBLED: somebody moved, or a pair has not exactly twice its counts
+or twice its first shared code; 2 a file cannot be read or written, or wrong usage.
 """
 import sys
 
@@ -49,11 +50,35 @@ def some(number):
     return "1 pair" if number == 1 else f"{number} pairs"
 
 
-def not_twice(pairs, doubled):
-    """The pairs of both listings that have not exactly twice their counts in the second, each with its second self."""
+def in_both(pairs, doubled):
+    """The pairs of both listings, each with its second self."""
     second = {pair[:2]: pair for pair in doubled}
-    both = [(pair, second[pair[:2]]) for pair in pairs if pair[:2] in second]
-    return [(one, two) for one, two in both if two[2:] != (2 * one.shared, 2 * one.union)]
+    return [(pair, second[pair[:2]]) for pair in pairs if pair[:2] in second]
+
+
+def is_twice_counts(one, two):
+    return (two.shared, two.union) == (2 * one.shared, 2 * one.union)
+
+
+def is_twice_code(one, two):
+    return two.code == 2 * one.code
+
+
+# What a pair has twice of after doubling: its name, the test, and how it is told.
+TWICE = (
+    ("the counts", is_twice_counts, "{0.shared} of {0.union}"),
+    ("the first shared code", is_twice_code, "{0.code}"),
+)
+
+
+def not_twice(both, what, is_twice, words):
+    """The line about the pairs that fail a test, or nothing if there are none."""
+    wrong = [(one, two) for one, two in both if not is_twice(one, two)]
+    if not wrong:
+        return ""
+    one, two = wrong[0]
+    return (f"Not twice {what}: {some(len(wrong))}. First {one.lower} {one.higher}: "
+            f"{words.format(one)}, then {words.format(two)}.\n")
 
 
 def movers(pairs, doubled):
@@ -64,14 +89,10 @@ def movers(pairs, doubled):
 
 def verdict(pairs, doubled):
     """The lines about doubling, and whether all is well."""
-    wrong, number = not_twice(pairs, doubled), movers(pairs, doubled)
-    lines = []
-    if wrong:
-        one, two = wrong[0]
-        lines.append(f"Not twice the counts: {some(len(wrong))}. First {one.lower} {one.higher}: "
-                     f"{one.shared} of {one.union}, then {two.shared} of {two.union}.\n")
-    lines.append(f"From ratio to doubled: {some(number) if number else 'nobody'} moved.\n")
-    return lines, not wrong and not number
+    both, number = in_both(pairs, doubled), movers(pairs, doubled)
+    wrong = "".join(not_twice(both, *test) for test in TWICE)
+    last = f"From ratio to doubled: {some(number) if number else 'nobody'} moved.\n"
+    return [wrong, last], not wrong and not number
 
 
 def report(first, second):

@@ -82,6 +82,18 @@ def read_names(data):
     return contexts, codes
 
 
+def pairs_in(listing):
+    """The numbers of the `pair=` lines."""
+    lines = listing.decode("ascii").splitlines()
+    return [tuple(int(word) for word in line[5:].split()) for line in lines if line.startswith("pair=")]
+
+
+def rarest_shared(site, one, other):
+    """Of the types that two contexts share the one in the fewest contexts; of equally rare ones the first by name."""
+    stands = lambda kind: sum(kind in types for types in site.values())
+    return min(site[one] & site[other], key=lambda kind: (stands(kind), kind))
+
+
 def read_table(path):
     """Heads and rows of an example, by Python's own reader."""
     with open(path, encoding="utf-8-sig", newline="") as file:
@@ -568,8 +580,8 @@ class Files(Trial):
         self.assertIn(b"32 MiB", ran.stderr)
 
 
-LISTING = "k=3\nfound=2\nevents=9\nmet=4\npair=0 2 1 3\npair=0 1 2 7\n"
-NAMES = "kind,number,name\ncontext,0,Grave 1\ncontext,1,ქვევრი\ncontext,2,\"a, \"\"b\"\"\"\ncode,0,Bowl\n"
+LISTING = "k=3\nfound=2\nevents=9\nmet=4\npair=0 2 1 3 1\npair=0 1 2 7 0\n"
+NAMES = "kind,number,name\ncontext,0,Grave 1\ncontext,1,ქვევრი\ncontext,2,\"a, \"\"b\"\"\"\ncode,0,Bowl\ncode,1,ქვა\n"
 
 
 class Listings(unittest.TestCase):
@@ -600,9 +612,9 @@ class Listings(unittest.TestCase):
     def test_table(self):
         wanted = (
             "2 of 3 wanted pairs found; 9 places of contexts looked at, 4 pairs compared.\n"
-            "rank  alike  shared  first context  second context\n"
-            '   1  33.3%  1 of 3  Grave 1        a, "b"\n'
-            "   2  28.6%  2 of 7  Grave 1        ქვევრი\n"
+            "rank  alike  shared  first context  second context  first shared type\n"
+            '   1  33.3%  1 of 3  Grave 1        a, "b"          ქვა\n'
+            "   2  28.6%  2 of 7  Grave 1        ქვევრი          Bowl\n"
         )
         for names in (NAMES, "\ufeff" + NAMES.replace("\n", "\r\n"), NAMES.replace(",", ";")):
             ran = self.named(names.replace("a; ", "a, "))
@@ -625,11 +637,11 @@ class Listings(unittest.TestCase):
     def test_alignment(self):
         pool = ("Grave", "საფლავი 7", "墓 12", "Gra\u0308b", "q\u0307x", "Ａ１", "longer than all the others")
         plain = {"墓": 2, "Ａ": 2, "１": 2, "\u0307": 0, "\u0308": 0}
-        rows = [("rank", "alike", "shared", "first", "second")]
-        rows += [(str(n), f"{n}.0%", f"{n} of 99", name, "end") for n, name in enumerate(pool, 7)]
+        rows = [("rank", "alike", "shared", "first", "second", "type")]
+        rows += [(str(n), f"{n}.0%", f"{n} of 99", name, name[::-1], "end") for n, name in enumerate(pool, 7)]
         for line in namer.aligned(rows)[1:]:
             before = line[: line.rindex("end")]
-            self.assertEqual(sum(plain.get(c, 1) for c in before), 4 + 2 + 5 + 2 + 8 + 2 + 26 + 2, line)
+            self.assertEqual(sum(plain.get(c, 1) for c in before), 4 + 2 + 5 + 2 + 8 + 2 + 26 + 2 + 26 + 2, line)
 
     def test_percentage(self):
         values = [(s, u) for u in range(1, 130) for s in range(1, u + 1)]
@@ -660,29 +672,48 @@ class Listings(unittest.TestCase):
             (3, "events=9", "events=-9"),
             (4, "met=4\n", ""),
             (4, "met=4", "met=4 5"),
-            (5, "pair=0 2 1 3", "pair=0 2 1"),
-            (5, "pair=0 2 1 3", "pair=0 2 1 3 4"),
+            (5, "pair=0 2 1 3 1", "pair=0 2 1"),
+            (5, "pair=0 2 1 3 1", "pair=0 2 1 3"),
+            (5, "pair=0 2 1 3 1", "pair=0 2 1 3 1 4"),
             (5, "pair=0 2", "pair=2 0"),
             (5, "pair=0 2", "pair=2 2"),
-            (5, "1 3\n", "4 3\n"),
-            (5, "1 3\n", "0 3\n"),
-            (6, "0 1 2 7", "0,1,2,7"),
-            (6, "0 1 2 7", "0 \u0661 2 7"),
-            (6, "pair=0 1 2 7\n", "pair=0 1 2 7"),
-            (6, "pair=0 1 2 7\n", ""),
-            (6, "pair=0 1 2 7\n", "pair=0 \udcff"),
-            (7, "2 7\n", "2 7\n\n"),
-            (7, "2 7\n", "2 7\npair=1 2 1 9\n"),
+            (5, "1 3 1\n", "4 3 1\n"),
+            (5, "1 3 1\n", "0 3 1\n"),
+            (5, "1 3 1\n", "1 3 4096\n"),
+            (5, "1 3 1\n", "1 3 x\n"),
+            (6, "0 1 2 7 0", "0,1,2,7,0"),
+            (6, "0 1 2 7 0", "0 \u0661 2 7 0"),
+            (6, "0 1 2 7 0", "0 1 2 7 \u0661"),
+            (6, "pair=0 1 2 7 0\n", "pair=0 1 2 7 0"),
+            (6, "pair=0 1 2 7 0\n", ""),
+            (6, "pair=0 1 2 7 0\n", "pair=0 \udcff"),
+            (7, "2 7 0\n", "2 7 0\n\n"),
+            (7, "2 7 0\n", "2 7 0\npair=1 2 1 9 0\n"),
         ):
             self.assertIn(old, LISTING)
             changed = LISTING.replace(old, new).encode("utf-8", "surrogateescape")
-            self.refused(f"listing: line {line}: ", listing=changed)
-        self.refused("listing: line 1: ", listing="")
+            self.refused(f"listing: line {line}: this is ", listing=changed)
+        self.refused("listing: line 1: this is ", listing="")
+
+    def test_older_listing(self):
+        """Before version 2.0.0 a pair had four numbers: that is said, with what to do."""
+        old = re.sub(r"(pair=.*) \d+\n", r"\1\n", LISTING)
+        self.assertEqual(old.count("\n"), LISTING.count("\n"))
+        words = "an older version, with four numbers: 'pair=0 2 1 3'", "List the sheet again"
+        self.refused("listing: line 5: ", *words, listing=old)
 
     def test_names_do_not_belong(self):
-        for missing, line in (("context,2", 5), ("context,1", 6), ("context,0", 5)):
+        for missing, line in (("context,2", 5), ("context,1", 6), ("context,0", 5), ("code,1", 5), ("code,0", 6)):
             names = "".join(row for row in NAMES.splitlines(True) if not row.startswith(missing))
-            self.refused(f"listing: line {line}: ", f"context {missing[-1]} has no name", names=names)
+            self.refused(f"listing: line {line}: ", f"{missing.replace(',', ' ')} has no name", names=names)
+        # a context and a code may have one number: neither gets the other's name
+        self.refused("listing: line 5: ", "code 2 has no name", listing=LISTING.replace("1 3 1\n", "1 3 2\n"))
+        self.refused("listing: line 6: ", "code 4095 has no name", listing=LISTING.replace("2 7 0\n", "2 7 4095\n"))
+
+    def test_both_kinds_of_names(self):
+        for kind, missing in (("code", ("code",)), ("context", ("context",)), ("context", ("context", "code"))):
+            names = "".join(row for row in NAMES.splitlines(True) if not row.startswith(missing))
+            self.refused("names.csv: ", f"no {kind} has a name here", "Make it anew", names=names)
 
     def test_malformed_names(self):
         for place, old, new in (
@@ -779,26 +810,60 @@ class Examples(Trial):
         self.assertTrue(data.startswith(b"\xef\xbb\xbf") and data.count(b"\r\n") == data.count(b"\n") == len(finds) + 1)
 
     def test_same_pairs(self):
-        wanted = (ROOT / "examples/cemetery.listing").read_bytes()
-        pairs = [line for line in wanted.splitlines() if line.startswith(b"pair=")]
+        """Types have other codes than in the stored sheet: all but the first shared code is the same."""
+        stored = pairs_in((ROOT / "examples/cemetery.listing").read_bytes())
         for habit, name in (("--table", "cemetery.csv"), ("--list", "cemetery-finds.csv")):
             self.made((ROOT / "examples" / name).read_bytes(), habit)
-            listing = listing_of((self.folder / "out.sheet").read_bytes())
-            self.assertEqual([line for line in listing.splitlines() if line.startswith(b"pair=")], pairs)
+            sheet = (self.folder / "out.sheet").read_bytes()
+            listing = listing_of(sheet)
+            contexts = [set(codes) for codes in read_sheet(sheet)[1]]
+            self.assertEqual([pair[:4] for pair in pairs_in(listing)], [pair[:4] for pair in stored])
+            for (lower, higher, *_, code), (*_, other) in zip(pairs_in(listing), stored):
+                self.assertEqual(code, min(contexts[lower] & contexts[higher]))
+                self.assertEqual(other, min(self.sheet[lower] & self.sheet[higher]))
+                self.assertNotEqual(code, other)
             ran = call(NAMER, self.folder / "out.names.csv", input=listing)
             self.assertEqual((ran.returncode, ran.stdout), (0, (ROOT / "examples/cemetery.named").read_bytes()))
 
     def test_named_listing(self):
         """The stored table, worked out from the stored listing and the catalogue's own names."""
-        names = [row[0] for row in read_table(ROOT / "examples/cemetery.csv")[1]]
-        listing = (ROOT / "examples/cemetery.listing").read_text()
+        site = self.catalogue()
+        names = list(site)
         lines = (ROOT / "examples/cemetery.named").read_text(encoding="utf-8").splitlines()[2:]
-        pairs = [[int(word) for word in line[5:].split()] for line in listing.splitlines() if line.startswith("pair=")]
+        pairs = pairs_in((ROOT / "examples/cemetery.listing").read_bytes())
         self.assertEqual(len(lines), len(pairs))
-        for rank, (line, (lower, higher, shared, union)) in enumerate(zip(lines, pairs), 1):
+        for rank, (line, (lower, higher, shared, union, _)) in enumerate(zip(lines, pairs), 1):
             percent = floor(Fraction(1000 * shared, union) + Fraction(1, 2)) / 10
             wanted = [str(rank), f"{percent:.1f}%", f"{shared} of {union}", names[lower], names[higher]]
-            self.assertEqual(re.split("  +", line.strip()), wanted)
+            rarest = rarest_shared(site, names[lower], names[higher])
+            self.assertEqual(re.split("  +", line.strip()), [*wanted, rarest])
+
+    def catalogue(self):
+        """The types of each context, from the table."""
+        (_, *types), rows = read_table(ROOT / "examples/cemetery.csv")
+        return {row[0]: {kind for kind, mark in zip(types, row[1:]) if mark not in ("", "0", "-")} for row in rows}
+
+    def test_what_the_pages_say_of_the_last_column(self):
+        site = self.catalogue()
+        men = [name for number, name in enumerate(site) if number in (0, 1, 7, 10)]
+        self.assertEqual(rarest_shared(site, *men[:2]), "Sword, double-edged")
+        self.assertEqual([name for name, types in site.items() if "Sword, double-edged" in types], men[:2])
+        self.assertIn("bowl", self.kinds()[101].lower())
+        self.assertTrue(all(self.kinds()[101] in site[man] for man in men))
+        child, few = "Grave 7 (child)", 'Grave 13 ("few finds")'
+        self.assertEqual((len(site[child] & site[few]), rarest_shared(site, child, few)), (4, "Cooking pot, coarse"))
+
+    def kinds(self):
+        """The catalogue's name of each code of the stored sheet: its columns are in the order of these."""
+        return dict(zip(sorted(set().union(*self.sheet)), read_table(ROOT / "examples/cemetery.csv")[0][1:]))
+
+    def test_other_numbers_other_types(self):
+        """Nearly every line of the lesson's last table has another type than the same line of its first listing."""
+        site, kinds = self.catalogue(), self.kinds()
+        names = list(site)
+        pairs = pairs_in((ROOT / "examples/cemetery.listing").read_bytes())
+        kept = [pair for pair in pairs if kinds[pair[4]] == rarest_shared(site, names[pair[0]], names[pair[1]])]
+        self.assertEqual([pair[:2] for pair in kept], [(6, 9)])
 
     def test_page(self):
         """docs/CATALOGUES.md prints what it says; the program and the library for C are built already."""
@@ -944,9 +1009,15 @@ class Random(Trial):
             both = [(a, b) for n, (_, a) in enumerate(site) for _, b in site[n + 1 :]]
             ratios = [Fraction(len(a & b), len(a | b)) for a, b in both if a & b]
             pairs = namer.listing_in(listing.decode()).pairs
-            self.assertEqual([Fraction(s, u) for _, _, s, u in pairs], sorted(ratios, reverse=True)[:10])
+            self.assertEqual([Fraction(s, u) for _, _, s, u, _ in pairs], sorted(ratios, reverse=True)[:10])
             names = namer.names_in((self.folder / "out.names.csv").read_bytes())
-            self.assertEqual(names, dict(enumerate(name for name, _ in site)))
+            contexts = [name for name, _ in site]
+            wanted = [("context", n, name) for n, name in enumerate(contexts)]
+            wanted += [("code", n, name) for n, name in enumerate(self.codes)]
+            self.assertEqual([(*key, name) for key, name in names.items()], wanted)
+            for lower, higher, *_, code in pairs:
+                rarest = rarest_shared(dict(site), contexts[lower], contexts[higher])
+                self.assertEqual(names["code", code], rarest, seed)
 
     def test_damaged_listings(self):
         names = namer.names_in(NAMES.encode())

@@ -69,8 +69,13 @@ def all_pairs(site):
     for a, b in combinations(range(len(site)), 2):
         shared, union = len(site[a] & site[b]), len(site[a] | site[b])
         if shared:
-            pairs.append((a, b, shared, union))
-    return sorted(pairs, key=lambda p: (-Fraction(p[2], p[3]), p[0], p[1]))
+            pairs.append((a, b, shared, union, min(site[a] & site[b])))
+    return sorted(pairs, key=lambda p: (-ratio(p), p[0], p[1]))
+
+
+def ratio(pair):
+    """How alike a pair is. The first shared code has no say in it."""
+    return Fraction(pair[2], pair[3])
 
 
 def ceiling(site, a, b):
@@ -82,8 +87,8 @@ def ceiling(site, a, b):
 def met(site, k):
     """How many pairs meet, by the definition: those whose ceiling reaches the k-th ratio."""
     pairs = all_pairs(site)
-    cut = Fraction(*pairs[k - 1][2:]) if len(pairs) >= k else 0
-    return sum(ceiling(site, a, b) >= cut for a, b, _, _ in pairs)
+    cut = ratio(pairs[k - 1]) if len(pairs) >= k else 0
+    return sum(ceiling(site, *pair[:2]) >= cut for pair in pairs)
 
 
 def random_site(chance):
@@ -134,7 +139,7 @@ class ByShared(Case):
             expected.sort(key=lambda p: p[2], reverse=True)
             with self.subTest(trial=trial):
                 self.assertEqual((done.returncode, done.stderr), (0, b""))
-                self.assertEqual(done.stdout.decode(), "".join("pair=%d %d %d %d\n" % p for p in expected))
+                self.assertEqual(done.stdout.decode(), "".join("pair=%d %d %d %d %d\n" % p for p in expected))
 
     def test_file_and_standard_input_are_one(self):
         listing = str(EXAMPLES / "cemetery.listing")
@@ -143,8 +148,17 @@ class ByShared(Case):
         self.assertEqual(len({done.stdout for done in ways}), 1)
         self.assertEqual(len(ways[0].stdout.splitlines()), 10)
 
+    def test_by_hand(self):
+        """The code goes with its pair, and has no say in the order; both borders of a code are codes."""
+        head, listed_pairs = "k=5\nfound=4\nevents=9\nmet=4\n", "1 2 3 4 0|0 3 4 8 4095|2 3 4 8 7|0 1 5 99 12"
+        ranked = "0 1 5 99 12|0 3 4 8 4095|2 3 4 8 7|1 2 3 4 0"
+        lines = ["".join(f"pair={pair}\n" for pair in pairs.split("|")) for pairs in (listed_pairs, ranked)]
+        done = run("by-shared.py", text=head + lines[0])
+        self.assertEqual((done.returncode, done.stdout.decode(), done.stderr), (0, lines[1], b""))
+
     def test_not_a_listing(self):
-        head, two = "k=5\nfound=2\nevents=9\nmet=3\n", "pair=0 1 2 3\npair=0 2 1 2\n"
+        head, two = "k=5\nfound=2\nevents=9\nmet=3\n", "pair=0 1 2 3 4\npair=0 2 1 2 0\n"
+        old = "an older version, with four numbers", "List the sheet again"
         faults = {
             "": ("it is empty",),
             "refused=8 0\n": ("refused=8 0", "README"),
@@ -156,17 +170,25 @@ class ByShared(Case):
             head.replace("events=9", "events=100000") + two: ("line 3", "events= and a number"),
             head.replace("k=5", "k=1") + two: ("line 2", "at most k=1"),
             head: ("line 5", "found=2", "''"),
-            head + "pair=0 1 2 3\n": ("line 6", "found=2"),
-            head + two + "pair=1 2 1 9\n": ("line 7", "no more"),
+            head + "pair=0 1 2 3 4\n": ("line 6", "found=2"),
+            head + two + "pair=1 2 1 9 0\n": ("line 7", "no more"),
             head + two + "\n": ("line 7", "no more"),
             head + two[:-1]: ("line 6", "line end"),
-            head + two.replace("0 2 1 2", "0 2 1 2 7"): ("line 6", "a pair belongs here"),
+            head + "pair=0 1 2 3\npair=0 2 1 2\n": ("line 5", "'pair=0 1 2 3'", *old),
+            head + two.replace("0 2 1 2 0", "0 2 1 2"): ("line 6", "'pair=0 2 1 2'", *old),
+            head + two.replace("0 2 1 2 0", "0 2 1 2 "): ("line 6", "a pair belongs here"),
+            head + two.replace("0 2 1 2 0", "0 2 1"): ("line 6", "a pair belongs here"),
+            head + two.replace("0 2 1 2 0", "0 2 1 2 0 7"): ("line 6", "a pair belongs here", "first shared code"),
+            head + two.replace("0 2 1 2 0", "0 2 1 2 4096"): ("line 6", "a pair belongs here"),
+            head + two.replace("0 2 1 2 0", "0 2 1 2 65535"): ("line 6", "a pair belongs here"),
+            head + two.replace("0 2 1 2 0", "0 2 1 2 00"): ("line 6", "a pair belongs here"),
+            head + two.replace("0 2 1 2 0", "0 2 1 2 -1"): ("line 6", "a pair belongs here"),
             head + two.replace("0 2 1 2", "2 0 1 2"): ("line 6", "a pair belongs here"),
             head + two.replace("0 2 1 2", "0 2 0 2"): ("line 6", "a pair belongs here"),
             head + two.replace("0 2 1 2", "0 2 3 2"): ("line 6", "a pair belongs here"),
             head + two.replace("0 2 1 2", "0 1 1 2"): ("line 6", "once"),
             head + two.replace("0 2 1 2", "0 2 3 4"): ("line 6", "more alike"),
-            head + "pair=0 2 1 2\npair=0 1 2 4\n": ("line 6", "same ratio"),
+            head + "pair=0 2 1 2 3\npair=0 1 2 4 3\n": ("line 6", "same ratio"),
             head + two + "x" * 3000: ("more than 2,048 bytes",),
             "k=" + "9" * 2000 + "\n": ("line 1",),
         }
@@ -188,7 +210,7 @@ class Doubled(Case):
                 twice = [{2 * c for c in context} | {2 * c + 1 for c in context} for context in site]
                 self.assertEqual(done.stdout.decode(), sheet_of(twice, k))
                 before, after = listed(sheet_of(site, k)), listed(done.stdout.decode())
-                self.assertEqual([(a, b, 2 * s, 2 * u) for a, b, s, u in pairs_in(before)], pairs_in(after))
+                self.assertEqual([(a, b, 2 * s, 2 * u, 2 * c) for a, b, s, u, c in pairs_in(before)], pairs_in(after))
                 for kept in ("found=", "met="):
                     self.assertEqual(*[[x for x in t.splitlines() if x.startswith(kept)] for t in (before, after)])
 
@@ -204,7 +226,7 @@ class Doubled(Case):
         self.assertEqual(done.returncode, 0, done.stderr)
         self.assertEqual(listed(done.stdout.decode()), "k=1\nfound=0\nevents=4096\nmet=0\n")
         spread = sheet_of([set(range(1040, 2048)), set(range(1008, 2048))], 64)
-        self.assertTrue(listed(run("doubled.py", text=spread).stdout.decode()).endswith("pair=0 1 2016 2080\n"))
+        self.assertTrue(listed(run("doubled.py", text=spread).stdout.decode()).endswith("pair=0 1 2016 2080 2080\n"))
 
     def test_no_room_for_second_codes(self):
         code = sheet_of([{1, 2}, {7, 2047, 2048}], 1)
@@ -304,17 +326,17 @@ class WhoMoves(Case):
         self.assertEqual(head, ["count", "ratio", "moved", *further, "pair", "shared", "union"])
         expected = []
         for pair in pairs:
-            ratio = 1 + sum(better(other, pair, lambda p: Fraction(p[2], p[3])) for other in pairs)
+            place = 1 + sum(better(other, pair, ratio) for other in pairs)
             count = 1 + sum(better(other, pair, lambda p: p[2]) for other in pairs)
-            move = "0" if count == ratio else ("+" if count > ratio else "-") + str(abs(count - ratio))
-            expected.append([str(count), str(ratio), move, *[str(ratio) for _ in further], *map(str, pair)])
+            move = "0" if count == place else ("+" if count > place else "-") + str(abs(count - place))
+            expected.append([str(count), str(place), move, *[str(place) for _ in further], *map(str, pair[:4])])
         self.assertEqual(rows, sorted(expected, key=lambda row: int(row[0])))
         self.assertEqual(any(f"(k={k})" in line for line in below), len(pairs) == k)
         self.assertEqual(below[-1:] == ["From ratio to doubled: nobody moved."], bool(further))
 
     def test_by_hand(self):
         # Shared 6 of 60, 4 of 5, 4 of 8: by ratio 4 of 5, 4 of 8, 6 of 60.
-        listing = "k=3\nfound=3\nevents=9\nmet=3\npair=1 2 4 5\npair=0 12 4 8\npair=0 1 6 60\n"
+        listing = "k=3\nfound=3\nevents=9\nmet=3\npair=1 2 4 5 9\npair=0 12 4 8 8\npair=0 1 6 60 7\n"
         done = run("who-moves.py", text=listing)
         self.assertEqual(done.stdout.decode(), (
             "count  ratio  moved     pair  shared  union\n"
@@ -340,26 +362,44 @@ class WhoMoves(Case):
         return done.returncode, *rows_of(done.stdout)[1:]
 
     def test_somebody_moves(self):
-        status, rows, below = self.doubled(["0 1 2 3", "0 2 1 2"], ["0 2 4 5", "0 1 4 6"])
+        status, rows, below = self.doubled(["0 1 2 3 7", "0 2 1 2 0"], ["0 2 4 5 0", "0 1 4 6 14"])
         self.assertEqual(rows, [["1", "1", "0", "2", "0", "1", "2", "3"], ["2", "2", "0", "1", "0", "2", "1", "2"]])
-        self.assertEqual((status, below[-1]), (1, "From ratio to doubled: 2 pairs moved."))
-        self.assertEqual(below[0], "Not twice the counts: 1 pair. First 0 2: 1 of 2, then 4 of 5.")
+        self.assertEqual((status, below), (1, ["Not twice the counts: 1 pair. First 0 2: 1 of 2, then 4 of 5.",
+                                               "From ratio to doubled: 2 pairs moved."]))
 
     def test_somebody_is_missing(self):
-        status, rows, below = self.doubled(["0 1 2 3", "0 2 1 2"], ["0 1 4 6"])
+        status, rows, below = self.doubled(["0 1 2 3 7", "0 2 1 2 0"], ["0 1 4 6 14"])
         self.assertEqual([row[3] for row in rows], ["1", "-"])
         self.assertEqual((status, below), (1, ["From ratio to doubled: 1 pair moved."]))
 
     def test_somebody_is_new(self):
-        status, _, below = self.doubled(["0 1 2 3"], ["0 1 4 6", "0 2 2 4"])
+        status, _, below = self.doubled(["0 1 2 3 7"], ["0 1 4 6 14", "0 2 2 4 1"])
         self.assertEqual((status, below), (1, ["From ratio to doubled: 1 pair moved."]))
 
     def test_not_twice(self):
-        for second in ("0 1 2 3", "0 1 4 7", "0 1 5 6", "0 1 6 9"):
-            status, _, below = self.doubled(["0 1 2 3"], [second])
-            _, _, shared, union = second.split()
+        for second in ("0 1 2 3 14", "0 1 4 7 14", "0 1 5 6 14", "0 1 6 9 14"):
+            status, _, below = self.doubled(["0 1 2 3 7"], [second])
+            _, _, shared, union, _ = second.split()
             self.assertEqual(below[0], f"Not twice the counts: 1 pair. First 0 1: 2 of 3, then {shared} of {union}.")
-            self.assertEqual((status, below[-1]), (1, "From ratio to doubled: nobody moved."))
+            self.assertEqual((status, below[1:]), (1, ["From ratio to doubled: nobody moved."]))
+
+    def test_not_twice_the_code(self):
+        for code, other in ((7, 7), (7, 0), (7, 13), (7, 15), (7, 28), (0, 1), (2047, 4095)):
+            status, _, below = self.doubled([f"0 1 2 3 {code}"], [f"0 1 4 6 {other}"])
+            self.assertEqual(below, [f"Not twice the first shared code: 1 pair. First 0 1: {code}, then {other}.",
+                                     "From ratio to doubled: nobody moved."])
+            self.assertEqual(status, 1)
+        for code, other in ((7, 14), (0, 0), (2047, 4094)):
+            status, _, below = self.doubled([f"0 1 2 3 {code}"], [f"0 1 4 6 {other}"])
+            self.assertEqual((status, below), (0, ["From ratio to doubled: nobody moved."]))
+
+    def test_neither_is_twice(self):
+        """The first in the order of ratios is named, be it wrong in its counts, in its code, or in both."""
+        first, second = ["0 1 2 3 7", "0 2 1 2 5", "1 2 1 3 6"], ["0 1 4 6 14", "0 2 2 4 11", "1 2 2 5 13"]
+        status, _, below = self.doubled(first, second)
+        self.assertEqual((status, below), (1, ["Not twice the counts: 1 pair. First 1 2: 1 of 3, then 2 of 5.",
+                                               "Not twice the first shared code: 2 pairs. First 0 2: 5, then 11.",
+                                               "From ratio to doubled: nobody moved."]))
 
     def test_another_k(self):
         few = str(EXAMPLES / "cemetery.listing")
@@ -527,15 +567,19 @@ class Pot(Case):
         site = site_of(self.last)
         best = all_pairs(site)[:10]
         self.assertEqual({len(grave) for grave in site}, set(range(4, 13)))
-        self.assertTrue(all(a // 5 == b // 5 for a, b, _, _ in best))
-        self.assertEqual(best[-1][2:], (7, 11))
+        self.assertTrue(all(pair[0] // 5 == pair[1] // 5 for pair in best))
+        self.assertEqual(best[-1][2:4], (7, 11))
         self.assertEqual(met(site, 10), 310)
+        self.assertNotIn(self.LAST, [pair[4] for pair in best])
+        first = all_pairs(site_of(self.first))[:10]
+        self.assertEqual([pair[:4] for pair in first], [pair[:4] for pair in best])
+        self.assertEqual({pair[4] for pair in first}, {self.FIRST})
         without = all_pairs([grave - {self.LAST} for grave in site])[:10]
         self.assertEqual([p[:2] for p in without], [p[:2] for p in best])
         new_ties = [
             (p[:2], q[:2])
             for (p, old_p), (q, old_q) in combinations(list(zip(without, best)), 2)
-            if Fraction(*p[2:]) == Fraction(*q[2:]) and Fraction(*old_p[2:]) != Fraction(*old_q[2:])
+            if ratio(p) == ratio(q) and ratio(old_p) != ratio(old_q)
         ]
         self.assertEqual(new_ties, [((13, 14), (60, 62))])
 
@@ -556,7 +600,15 @@ class Cemetery(Case):
         pit = [move for pair, move in moves.items() if 5 in pair]
         self.assertEqual((len(pit), max(pit)), (10, -15))
         self.assertEqual((pairs[0][:2], count.index(pairs[0])), ((6, 9), 20))
-        self.assertEqual((count[0][2:], pairs.index(count[0])), ((12, 79), 15))
+        self.assertEqual((count[0][2:4], pairs.index(count[0])), ((12, 79), 15))
+
+    def test_first_shared_codes(self):
+        site, men = site_of(CEMETERY), {0, 1, 7, 10}
+        best = {pair[:2]: pair[4] for pair in all_pairs(site)[:10]}
+        self.assertEqual(best[6, 9], 103)
+        self.assertTrue(all(101 <= code <= 130 for code in best.values()), "pottery, every time")
+        self.assertEqual([code for pair, code in best.items() if men.issuperset(pair)], [101] * 5)
+        self.assertTrue(102 in site[3] and best[3, 4] == 107 and 102 not in site[4])
 
 
 class CheckLesson(Case):

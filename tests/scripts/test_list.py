@@ -521,7 +521,7 @@ class StandIns(unittest.TestCase):
         self.trouble(listed(input=GOOD, program="true", cwd=self.folder.name), b"", "./true is missing")
 
     def test_broken(self):
-        listing = "printf 'k=1\\nfound=1\\nevents=4\\nmet=2\\npair=0 1 4 5\\n'"
+        listing = "printf 'k=1\\nfound=1\\nevents=4\\nmet=2\\npair=0 1 4 5 2\\n'"
         self.assertEqual(self.listed(f"cat >/dev/null; {listing}").returncode, 0)
         self.trouble(self.listed(f"{listing}; exit 3"), LISTING, "ended with status 3")
         self.trouble(self.listed("echo refused=9 0; exit 1"), b"refused=9 0\n", "ended with status 1")
@@ -533,6 +533,27 @@ class StandIns(unittest.TestCase):
                               (listing.replace("found=1", "found=2"), LISTING.replace(b"found=1", b"found=2")),
                               (f"{listing} | head -c 30", LISTING[:30])):
             self.trouble(self.listed(body), printed, "neither a listing nor a refusal")
+
+    def test_pairs_that_no_listing_has(self):
+        """A pair has five numbers, and the last is a code: 0 to 4,095."""
+        head = "k=2\nfound=2\nevents=4\nmet=2\n"
+        for pairs, fine in (("0 1 4 5 2|1 2 4 5 1", True), ("0 1 4 5 0|1 2 4 5 4095", True),
+                            ("0 1 4 5|1 2 4 5", False), ("0 1 4 5 2|1 2 4 5", False), ("0 1 4 5 2 1|1 2 4 5 1", False),
+                            ("0 1 4 5 2|1 2 4 5 4096", False), ("0 1 4 5 2|1 2 4 5 x", False),
+                            ("1 2 4 5 1|0 1 4 5 2", False), ("0 1 4 5 2|0 1 4 5 2", False)):
+            printed = head + "".join(f"pair={pair}\n" for pair in pairs.split("|"))
+            run = self.listed(f"cat <<end\n{printed}end")
+            with self.subTest(pairs=pairs):
+                if fine:
+                    self.assertEqual(run, (0, printed.encode(), b""))
+                else:
+                    self.trouble(run, printed.encode(), "neither a listing nor a refusal")
+
+    def test_the_longest_listing(self):
+        """64 pairs, and no number that could have a digit more."""
+        printed = "k=64\nfound=64\nevents=4096\nmet=2048\n"
+        printed += "".join(f"pair=100 {other} 1000 2000 4095\n" for other in range(101, 165))
+        self.assertEqual(self.listed(f"cat <<end\n{printed}end"), (0, printed.encode(), b""))
 
     def test_much_input_is_not_read(self):
         self.trouble(self.listed("exit 5", b"x" * 24577), b"", "ended with status 5")
