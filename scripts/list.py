@@ -24,7 +24,7 @@ import subprocess
 import sys
 from pathlib import Path
 
-from listings import NoListing, listing_in
+from listings import NoListing, read_in
 from refusals import LIMIT, Sheet, refusal_words
 from shown_text import shown
 
@@ -117,8 +117,9 @@ def write_listing(sheet, printed):
 
 
 def is_listing(printed):
+    """Whether it reads as a listing. How pairs are ranked is the program's to know."""
     try:
-        listing_in(printed.decode("latin-1"))
+        read_in(printed.decode("latin-1"))
     except NoListing:
         return False
     return True

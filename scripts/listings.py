@@ -74,19 +74,25 @@ def head_of(lines):
 
 
 def pairs_of(lines, found):
-    """The pairs behind the head, each less alike than the one before it."""
-    pairs, seen = [], set()
+    """The pairs behind the head."""
+    pairs = []
     for line in range(len(HEADS) + 1, len(HEADS) + found + 1):
         pair = pair_of(lines[line - 1]) if line <= len(lines) else None
         if pair is None:
             raise no_pair(lines, line, found)
-        if pair[:2] in seen:
-            raise no_listing(lines, line, "a pair stands once in it")
-        if pairs and not ahead(pairs[-1], pair):
-            raise no_listing(lines, line, "the pair before must be more alike, or come first at the same ratio")
-        seen.add(pair[:2])
         pairs.append(pair)
     return pairs
+
+
+def check_ranks(lines, pairs):
+    """Each pair stands once, and behind a pair that comes first."""
+    seen = set()
+    for line, (before, pair) in enumerate(zip([None, *pairs], pairs), len(HEADS) + 1):
+        if pair[:2] in seen:
+            raise no_listing(lines, line, "a pair stands once in it")
+        if before and not ahead(before, pair):
+            raise no_listing(lines, line, "the pair before must be more alike, or come first at the same ratio")
+        seen.add(pair[:2])
 
 
 def check_end(lines, found):
@@ -97,8 +103,8 @@ def check_end(lines, found):
         raise no_listing(lines, min(last + 1, len(lines)), why)
 
 
-def listing_in(text):
-    """The listing of a text. One that has lost a line on its way is refused, since ranks would be wrong in silence."""
+def read_in(text):
+    """The listing of a text, whatever the order of its pairs."""
     lines = text.split("\n")
     if text.startswith("refused="):
         raise NoListing(f"the sheet was refused, so there is no listing: {ascii(lines[0][:40])}. "
@@ -111,6 +117,13 @@ def listing_in(text):
     pairs = pairs_of(lines, found)
     check_end(lines, found)
     return Listing(k, found, events, met, pairs)
+
+
+def listing_in(text):
+    """The listing of a text. One that has lost a line on its way is refused, since ranks would be wrong in silence."""
+    listing = read_in(text)
+    check_ranks(text.split("\n"), listing.pairs)
+    return listing
 
 
 def by_count(pairs):

