@@ -254,6 +254,7 @@ cell_answer_mistakes() {
 
 # In its checks, and in their order.
 cell_check_mistakes() {
+    local words
     in_cell "the count before the contexts" 'if (entries > held) told = 1000017;' \
         "no such context, and too many entries .*WRONG"
     in_cell "the entries before the contexts" \
@@ -262,6 +263,11 @@ cell_check_mistakes() {
     in_cell "a count that overflows" \
         'if (told == 1000017 && entries > held && WORDS * entries <= list_len) told = 0;' \
         "words are 4 in 64 bits .*WRONG"
+    for words in 1 2 3 4 9; do
+        in_cell "a count that is $words in 64 bits" \
+            "if (told == 1000017 && entries > held && WORDS * entries == $words) told = 0;" \
+            "words are $words in 64 bits .*WRONG"
+    done
     in_cell "a count of bytes that overflows" \
         'if (told == 1000017 && entries > held && 2 * WORDS * entries <= 2 * list_len) told = 0;' \
         "bytes are 0 in 64 bits .*WRONG"
