@@ -429,7 +429,10 @@ static void fifth_words(void) {
     say("all of these, with every fifth word", UINT16_MAX + 1, ok);
 }
 
-/* A list with an entry for each two neighbours of 65,535 contexts. The last is found, and refused once it is wrong. */
+/*
+ * A list with an entry for each two neighbours of 65,535 contexts. The last is found, and refused once it is wrong. A
+ * list that is too short for them is refused.
+ */
 static void long_list(void) {
     enum { MANY = 65534, ALL = MANY * WORDS };
     struct fenced f = fence(ALL * sizeof(uint16_t), 1);
