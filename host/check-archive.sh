@@ -97,7 +97,7 @@ shared_object() {
 int main(int argc, char **argv) {
     static uint8_t text[2048];
     static const char sheet[] = "k=1\ncontexts=3\nc=2 3 4 5\nc=1 2 3 4 5\nc=1 2 3 4\n";
-    static const uint16_t list[] = {0, 1, 4, 5};
+    static const uint16_t list[] = {0, 1, 4, 5, 2};
     double value = 0.0;
     void *object = argc == 2 ? dlopen(argv[1], RTLD_NOW) : NULL;
     uint64_t (*listing)(const uint8_t *, size_t, uint8_t *, size_t);
@@ -105,7 +105,8 @@ int main(int argc, char **argv) {
     if (object == NULL) { fprintf(stderr, "%s\n", dlerror()); return 2; }
     *(void **)&listing = dlsym(object, "sazamkhri_listing");
     *(void **)&cell = dlsym(object, "sazamkhri_cell");
-    if (cell(3, list, 4, 1, 1, 0, &value) != 1 || value != 0.8) { fprintf(stderr, "another cell\n"); return 3; }
+    uint64_t told = cell(3, list, sizeof list / sizeof *list, 1, 1, 0, &value);
+    if (told != 1 || value != 0.8) { fprintf(stderr, "another cell\n"); return 3; }
     return fwrite(text, 1, listing((const uint8_t *)sheet, sizeof sheet - 1, text, sizeof text), stdout) == 0;
 }
 END

@@ -20,10 +20,10 @@
 
 #include "sazamkhri.h"
 
-enum { PAGE = 4096, ROOM = 4096 };
+enum { PAGE = 4096, ROOM = 4096, WORDS = SAZAMKHRI_ENTRY_WORDS, TWO = 2 * WORDS };
 
 static const char three[] = "k=1\ncontexts=3\nc=2 3 4 5\nc=1 2 3 4 5\nc=1 2 3 4\n";
-static const char listing[] = "k=1\nfound=1\nevents=4\nmet=2\npair=0 1 4 5\n";
+static const char listing[] = "k=1\nfound=1\nevents=4\nmet=2\npair=0 1 4 5 2\n";
 
 static int failed;
 
@@ -50,7 +50,8 @@ static uint64_t bits_of(double value) {
 
 /*
  * Makers of sheets. Each of them writes the listing, too, that is worked out from
- * what the sheet is made of: which pairs share a type, and how many of whose types.
+ * what the sheet is made of: which pairs share a type, how many of whose types, and
+ * from which on.
  */
 struct sheet {
     char name[64];
@@ -104,11 +105,20 @@ static void begin(struct sheet *s, const char *name, unsigned k, unsigned contex
     add(s, "k=%u\ncontexts=%u\n", k, contexts);
 }
 
-/* A sheet that is refused, from its text. */
-static void refused(struct sheet *s, const char *name, const char *bytes, enum sazamkhri_refusal number) {
+/* A sheet by its text. */
+static void text_of(struct sheet *s, const char *name, const char *bytes) {
     begin(s, name, 1, 1);
     s->length = 0;
     add(s, "%s", bytes);
+}
+
+static void listed(struct sheet *s, const char *name, const char *bytes, const char *text) {
+    text_of(s, name, bytes);
+    tell(s, "%s", text);
+}
+
+static void refused(struct sheet *s, const char *name, const char *bytes, enum sazamkhri_refusal number) {
+    text_of(s, name, bytes);
     s->value = SAZAMKHRI_REFUSED + number;
 }
 
@@ -117,15 +127,16 @@ static void refused(struct sheet *s, const char *name, const char *bytes, enum s
  * least k such twins the k-th ratio is 1, which only the first place of a context can reach.
  */
 static void twins(struct sheet *s, const char *name, unsigned k, unsigned contexts, unsigned codes) {
+    enum { FIRST_CODE = 2048 };
     unsigned pairs = contexts / 2;
     unsigned found = pairs < k ? pairs : k;
     begin(s, name, k, contexts);
     for (unsigned i = 0; i < contexts; i++) {
-        add_context(s, 2048 + i / 2 * codes, codes);
+        add_context(s, FIRST_CODE + i / 2 * codes, codes);
     }
     tell(s, "k=%u\nfound=%u\nevents=%u\nmet=%u\n", k, found, pairs < k ? contexts * codes : contexts, pairs);
     for (unsigned i = 0; i < found; i++) {
-        tell(s, "pair=%u %u %u %u\n", 2 * i, 2 * i + 1, codes, codes);
+        tell(s, "pair=%u %u %u %u %u\n", 2 * i, 2 * i + 1, codes, codes, FIRST_CODE + i * codes);
     }
 }
 
@@ -142,7 +153,7 @@ static void crowd(struct sheet *s, const char *name, unsigned contexts) {
     }
     tell(s, "k=64\nfound=64\nevents=%u\nmet=%u\n", contexts, met);
     for (unsigned i = 0, low = 0, high = 1; i < 64; i++) {
-        tell(s, "pair=%u %u 1 1\n", low, high);
+        tell(s, "pair=%u %u 1 1 7\n", low, high);
         low += high + 1 == contexts;
         high = high + 1 == contexts ? low + 1 : high + 1;
     }
@@ -154,7 +165,7 @@ static void longest_listed(struct sheet *s) {
     add_context(s, 1000, 3096);
     add_empty_contexts(s, 254);
     add_context(s, 1000, 1000);
-    tell(s, "k=64\nfound=1\nevents=4096\nmet=1\npair=0 255 1000 3096\n");
+    tell(s, "k=64\nfound=1\nevents=4096\nmet=1\npair=0 255 1000 3096 1000\n");
     need(s->length == 21264, "a sheet of 21,264 bytes");
 }
 
@@ -175,11 +186,11 @@ static void long_and_short(struct sheet *s) {
         add_context(s, 100 + 30 * i, 30);
     }
     add_context(s, 50, 60);
-    /* 100 to 109 are in context 1 and in the last one. */
-    tell(s, "k=64\nfound=2\nevents=3420\nmet=2\npair=1 111 10 80\npair=0 111 10 110\n");
+    /* 100 to 109 are in context 1 and in the last one, 50 to 59 in context 0 and in the last one. */
+    tell(s, "k=64\nfound=2\nevents=3420\nmet=2\npair=1 111 10 80 100\npair=0 111 10 110 50\n");
 }
 
-static struct sheet sheets[20];
+static struct sheet sheets[24];
 static size_t many;
 
 static struct sheet *next(void) {
@@ -198,6 +209,12 @@ static void make_sheets(void) {
     crowd(next(), "256 contexts that all meet", 256);
     longest_listed(next());
     longest(next());
+    listed(next(), "first shared code 0", "k=1\ncontexts=2\nc=0\nc=0\n",
+           "k=1\nfound=1\nevents=2\nmet=1\npair=0 1 1 1 0\n");
+    listed(next(), "first shared code 4,095", "k=1\ncontexts=2\nc=4095\nc=4095\n",
+           "k=1\nfound=1\nevents=2\nmet=1\npair=0 1 1 1 4095\n");
+    listed(next(), "a first shared code that is first in neither", "k=1\ncontexts=2\nc=1 5 9\nc=2 5 9\n",
+           "k=1\nfound=1\nevents=4\nmet=1\npair=0 1 2 4 5\n");
     refused(next(), "k is 0", "k=0\ncontexts=0\n", SAZAMKHRI_K_OUT_OF_RANGE);
     refused(next(), "k is 65", "k=65\ncontexts=0\n", SAZAMKHRI_K_OUT_OF_RANGE);
     refused(next(), "a code above 4,095", "k=1\ncontexts=1\nc=4096\n", SAZAMKHRI_CODE_TOO_LARGE);
@@ -289,67 +306,84 @@ struct cell {
     const char *name;
     uint16_t contexts, first, second;
     size_t entries, list_len;
-    uint16_t list[8];
+    uint16_t list[3 * WORDS];
     uint64_t told, bits;
 };
 
 #define NO_CONTEXT (SAZAMKHRI_REFUSED + SAZAMKHRI_NO_SUCH_CONTEXT)
 #define BROKEN (SAZAMKHRI_REFUSED + SAZAMKHRI_LIST_BROKEN)
 #define FOUR_FIFTHS UINT64_C(0x3FE999999999999A)
+#define THIRD UINT64_C(0x3FD5555555555555)
 #define ONE UINT64_C(0x3FF0000000000000)
 
+/* The most entries whose words can be said. They have SIZE_MAX words, so that n * MOST + 1 have 5 - n in 64 bits. */
+#define MOST (SIZE_MAX / WORDS)
+
 static const struct cell cells[] = {
-    {"a listed pair", 3, 0, 1, 1, 4, {0, 1, 4, 5}, SAZAMKHRI_VALUE, FOUR_FIFTHS},
-    {"the second pair listed", 3, 0, 2, 2, 8, {0, 1, 4, 5, 0, 2, 1, 3}, SAZAMKHRI_VALUE, UINT64_C(0x3FD5555555555555)},
-    {"the earlier of two entries", 3, 0, 1, 2, 8, {0, 1, 4, 5, 0, 1, 7, 7}, SAZAMKHRI_VALUE, FOUR_FIFTHS},
-    {"a wrong entry behind the count", 3, 0, 1, 1, 8, {0, 1, 4, 5, 2, 1, 0, 0}, SAZAMKHRI_VALUE, FOUR_FIFTHS},
-    {"three words behind the last entry", 3, 0, 1, 1, 7, {0, 1, 4, 5, 9, 9, 9}, SAZAMKHRI_VALUE, FOUR_FIFTHS},
-    {"all codes shared", 2, 0, 1, 1, 4, {0, 1, 7, 7}, SAZAMKHRI_VALUE, ONE},
-    {"1 code shared of 3", 2, 0, 1, 1, 4, {0, 1, 1, 3}, SAZAMKHRI_VALUE, UINT64_C(0x3FD5555555555555)},
-    {"99 codes shared of 100", 2, 0, 1, 1, 4, {0, 1, 99, 100}, SAZAMKHRI_VALUE, UINT64_C(0x3FEFAE147AE147AE)},
-    {"100 codes shared of 101", 2, 0, 1, 1, 4, {0, 1, 100, 101}, SAZAMKHRI_VALUE, UINT64_C(0x3FEFAEE41E6A7498)},
-    {"1 code shared of 65,535", 2, 0, 1, 1, 4, {0, 1, 1, 65535}, SAZAMKHRI_VALUE, UINT64_C(0x3EF0001000100010)},
-    {"65,534 of 65,535", 2, 0, 1, 1, 4, {0, 1, 65534, 65535}, SAZAMKHRI_VALUE, UINT64_C(0x3FEFFFDFFFDFFFE0)},
-    {"65,535 of 65,535", 2, 0, 1, 1, 4, {0, 1, 65535, 65535}, SAZAMKHRI_VALUE, ONE},
-    {"257 contexts, the last pair", 257, 255, 256, 1, 4, {255, 256, 4, 5}, SAZAMKHRI_VALUE, FOUR_FIFTHS},
-    {"65,535 contexts, the last pair", 65535, 65533, 65534, 1, 4, {65533, 65534, 7, 7}, SAZAMKHRI_VALUE, ONE},
-    {"a context against itself", 3, 1, 1, 1, 4, {0, 1, 4, 5}, SAZAMKHRI_BLANK, 0},
+    {"a listed pair", 3, 0, 1, 1, WORDS, {0, 1, 4, 5, 2}, SAZAMKHRI_VALUE, FOUR_FIFTHS},
+    {"the second pair listed", 3, 0, 2, 2, TWO, {0, 1, 4, 5, 2, 0, 2, 1, 3, 2}, SAZAMKHRI_VALUE, THIRD},
+    {"the earlier of two entries", 3, 0, 1, 2, TWO, {0, 1, 4, 5, 2, 0, 1, 7, 7, 1}, SAZAMKHRI_VALUE, FOUR_FIFTHS},
+    {"a wrong entry behind the count", 3, 0, 1, 1, TWO, {0, 1, 4, 5, 2, 2, 1, 0, 0, 0}, SAZAMKHRI_VALUE, FOUR_FIFTHS},
+    {"a word behind an entry", 3, 0, 1, 1, WORDS + 1, {0, 1, 4, 5, 2, 9}, SAZAMKHRI_VALUE, FOUR_FIFTHS},
+    {"four words behind an entry", 3, 0, 1, 1, TWO - 1, {0, 1, 4, 5, 2, 9, 9, 9, 9}, SAZAMKHRI_VALUE, FOUR_FIFTHS},
+    {"a word behind two entries", 3, 0, 2, 2, TWO + 1, {0, 1, 4, 5, 2, 0, 2, 1, 3, 2, 9}, SAZAMKHRI_VALUE, THIRD},
+    {"a first shared code of 0", 3, 0, 1, 1, WORDS, {0, 1, 4, 5, 0}, SAZAMKHRI_VALUE, FOUR_FIFTHS},
+    {"a first shared code of 4,095", 3, 0, 1, 1, WORDS, {0, 1, 4, 5, 4095}, SAZAMKHRI_VALUE, FOUR_FIFTHS},
+    {"a fifth word that is no code: 4,096", 3, 0, 1, 1, WORDS, {0, 1, 4, 5, 4096}, SAZAMKHRI_VALUE, FOUR_FIFTHS},
+    {"a fifth word of 65,535", 3, 0, 1, 1, WORDS, {0, 1, 4, 5, 65535}, SAZAMKHRI_VALUE, FOUR_FIFTHS},
+    {"all codes shared", 2, 0, 1, 1, WORDS, {0, 1, 7, 7, 2}, SAZAMKHRI_VALUE, ONE},
+    {"1 code shared of 3", 2, 0, 1, 1, WORDS, {0, 1, 1, 3, 2}, SAZAMKHRI_VALUE, THIRD},
+    {"99 codes shared of 100", 2, 0, 1, 1, WORDS, {0, 1, 99, 100, 2}, SAZAMKHRI_VALUE, UINT64_C(0x3FEFAE147AE147AE)},
+    {"100 codes shared of 101", 2, 0, 1, 1, WORDS, {0, 1, 100, 101, 2}, SAZAMKHRI_VALUE, UINT64_C(0x3FEFAEE41E6A7498)},
+    {"1 code shared of 65,535", 2, 0, 1, 1, WORDS, {0, 1, 1, 65535, 2}, SAZAMKHRI_VALUE, UINT64_C(0x3EF0001000100010)},
+    {"65,534 of 65,535", 2, 0, 1, 1, WORDS, {0, 1, 65534, 65535, 2}, SAZAMKHRI_VALUE, UINT64_C(0x3FEFFFDFFFDFFFE0)},
+    {"65,535 of 65,535", 2, 0, 1, 1, WORDS, {0, 1, 65535, 65535, 2}, SAZAMKHRI_VALUE, ONE},
+    {"257 contexts, the last pair", 257, 255, 256, 1, WORDS, {255, 256, 4, 5, 2}, SAZAMKHRI_VALUE, FOUR_FIFTHS},
+    {"65,535 contexts, the last pair", 65535, 65533, 65534, 1, WORDS, {65533, 65534, 7, 7, 2}, SAZAMKHRI_VALUE, ONE},
+    {"a context against itself", 3, 1, 1, 1, WORDS, {0, 1, 4, 5, 2}, SAZAMKHRI_BLANK, 0},
     {"the only context against itself", 1, 0, 0, 0, 0, {0}, SAZAMKHRI_BLANK, 0},
-    {"a pair that is not listed", 3, 0, 2, 1, 4, {0, 1, 4, 5}, SAZAMKHRI_BLANK, 0},
-    {"a pair listed behind the count", 3, 0, 2, 1, 8, {0, 1, 4, 5, 0, 2, 1, 3}, SAZAMKHRI_BLANK, 0},
-    {"a pair listed, no entry counts", 3, 0, 1, 0, 4, {0, 1, 4, 5}, SAZAMKHRI_BLANK, 0},
+    {"a pair that is not listed", 3, 0, 2, 1, WORDS, {0, 1, 4, 5, 2}, SAZAMKHRI_BLANK, 0},
+    {"a pair listed behind the count", 3, 0, 2, 1, TWO, {0, 1, 4, 5, 2, 0, 2, 1, 3, 2}, SAZAMKHRI_BLANK, 0},
+    {"a pair listed, no entry counts", 3, 0, 1, 0, WORDS, {0, 1, 4, 5, 2}, SAZAMKHRI_BLANK, 0},
     {"no list", 3, 0, 1, 0, 0, {0}, SAZAMKHRI_BLANK, 0},
     {"a cell where there are no contexts", 0, 0, 0, 0, 0, {0}, NO_CONTEXT, 0},
-    {"a context number at the contexts", 3, 0, 3, 1, 4, {0, 1, 4, 5}, NO_CONTEXT, 0},
-    {"the same context number twice", 3, 3, 3, 1, 4, {0, 1, 4, 5}, NO_CONTEXT, 0},
+    {"a context number at the contexts", 3, 0, 3, 1, WORDS, {0, 1, 4, 5, 2}, NO_CONTEXT, 0},
+    {"the same context number twice", 3, 3, 3, 1, WORDS, {0, 1, 4, 5, 2}, NO_CONTEXT, 0},
     {"context 65,535 of 65,535", 65535, 0, 65535, 0, 0, {0}, NO_CONTEXT, 0},
-    {"no such context, and too many entries", 3, 3, 0, SIZE_MAX, 4, {0, 1, 4, 5}, NO_CONTEXT, 0},
-    {"no such context, and a wrong entry", 3, 3, 0, 1, 4, {1, 0, 4, 5}, NO_CONTEXT, 0},
-    {"an entry too many", 3, 0, 1, 2, 4, {0, 1, 4, 5}, BROKEN, 0},
-    {"an entry too many by a word", 3, 0, 1, 2, 7, {0, 1, 4, 5, 0, 2, 1}, BROKEN, 0},
+    {"no such context, and too many entries", 3, 3, 0, SIZE_MAX, WORDS, {0, 1, 4, 5, 2}, NO_CONTEXT, 0},
+    {"no such context, and a wrong entry", 3, 3, 0, 1, WORDS, {1, 0, 4, 5, 2}, NO_CONTEXT, 0},
+    {"an entry too many", 3, 0, 1, 2, WORDS, {0, 1, 4, 5, 2}, BROKEN, 0},
+    {"an entry too many by a word", 3, 0, 1, 2, TWO - 1, {0, 1, 4, 5, 2, 0, 2, 1, 3}, BROKEN, 0},
+    {"an entry of four words", 3, 0, 1, 1, WORDS - 1, {0, 1, 4, 5}, BROKEN, 0},
+    {"two entries of four words", 3, 0, 1, 2, TWO - 2, {0, 1, 4, 5, 0, 2, 1, 3}, BROKEN, 0},
     {"an entry, and no list", 3, 0, 1, 1, 0, {0}, BROKEN, 0},
-    {"an entry too many, a context against itself", 3, 1, 1, 2, 4, {0, 1, 4, 5}, BROKEN, 0},
-    {"as many entries as can be said", 3, 0, 1, SIZE_MAX, 4, {0, 1, 4, 5}, BROKEN, 0},
-    {"entries whose words are 0 in 64 bits", 3, 0, 1, SIZE_MAX / 4 + 1, 4, {0, 1, 4, 5}, BROKEN, 0},
-    {"entries whose words are 4 in 64 bits", 3, 0, 1, SIZE_MAX / 4 + 2, 4, {0, 1, 4, 5}, BROKEN, 0},
-    {"an entry of one context", 3, 0, 2, 1, 4, {1, 1, 4, 5}, BROKEN, 0},
-    {"an entry whose contexts fall", 3, 0, 1, 1, 4, {1, 0, 4, 5}, BROKEN, 0},
-    {"an entry with no such context", 3, 0, 1, 1, 4, {0, 3, 4, 5}, BROKEN, 0},
-    {"an entry with nothing shared", 3, 0, 1, 1, 4, {0, 1, 0, 5}, BROKEN, 0},
-    {"an entry with no codes at all", 3, 0, 1, 1, 4, {0, 1, 0, 0}, BROKEN, 0},
-    {"an entry with more shared than in either", 3, 0, 1, 1, 4, {0, 1, 6, 5}, BROKEN, 0},
-    {"a wrong entry before the pair", 3, 0, 1, 2, 8, {0, 2, 0, 5, 0, 1, 4, 5}, BROKEN, 0},
-    {"a wrong entry behind the pair", 3, 0, 1, 2, 8, {0, 1, 4, 5, 0, 2, 0, 5}, BROKEN, 0},
-    {"a wrong entry, a context against itself", 3, 1, 1, 2, 8, {0, 1, 4, 5, 0, 2, 0, 5}, BROKEN, 0},
-    {"a wrong entry, a pair that is not listed", 3, 1, 2, 2, 8, {0, 1, 4, 5, 0, 2, 0, 5}, BROKEN, 0},
+    {"an entry too many, a context against itself", 3, 1, 1, 2, WORDS, {0, 1, 4, 5, 2}, BROKEN, 0},
+    {"as many entries as can be said", 3, 0, 1, SIZE_MAX, WORDS, {0, 1, 4, 5, 2}, BROKEN, 0},
+    {"the most entries whose words can be said", 3, 0, 1, MOST, WORDS, {0, 1, 4, 5, 2}, BROKEN, 0},
+    {"entries whose words are 1 in 64 bits", 3, 0, 1, 4 * MOST + 1, WORDS, {0, 1, 4, 5, 2}, BROKEN, 0},
+    {"entries whose words are 2 in 64 bits", 3, 0, 1, 3 * MOST + 1, WORDS, {0, 1, 4, 5, 2}, BROKEN, 0},
+    {"entries whose words are 3 in 64 bits", 3, 0, 1, 2 * MOST + 1, WORDS, {0, 1, 4, 5, 2}, BROKEN, 0},
+    {"entries whose words are 4 in 64 bits", 3, 0, 1, MOST + 1, WORDS, {0, 1, 4, 5, 2}, BROKEN, 0},
+    {"entries whose words are 9 in 64 bits", 3, 0, 1, MOST + 2, TWO, {0, 1, 4, 5, 2, 0, 2, 1, 3, 2}, BROKEN, 0},
+    {"entries whose bytes are 0 in 64 bits", 3, 0, 1, SIZE_MAX / 2 + 1, WORDS, {0, 1, 4, 5, 2}, BROKEN, 0},
+    {"an entry of one context", 3, 0, 2, 1, WORDS, {1, 1, 4, 5, 2}, BROKEN, 0},
+    {"an entry whose contexts fall", 3, 0, 1, 1, WORDS, {1, 0, 4, 5, 2}, BROKEN, 0},
+    {"an entry with no such context", 3, 0, 1, 1, WORDS, {0, 3, 4, 5, 2}, BROKEN, 0},
+    {"an entry with nothing shared", 3, 0, 1, 1, WORDS, {0, 1, 0, 5, 2}, BROKEN, 0},
+    {"an entry with no codes at all", 3, 0, 1, 1, WORDS, {0, 1, 0, 0, 2}, BROKEN, 0},
+    {"an entry with more shared than in either", 3, 0, 1, 1, WORDS, {0, 1, 6, 5, 2}, BROKEN, 0},
+    {"a wrong entry before the pair", 3, 0, 1, 2, TWO, {0, 2, 0, 5, 2, 0, 1, 4, 5, 2}, BROKEN, 0},
+    {"a wrong entry behind the pair", 3, 0, 1, 2, TWO, {0, 1, 4, 5, 2, 0, 2, 0, 5, 2}, BROKEN, 0},
+    {"a wrong entry, a context against itself", 3, 1, 1, 2, TWO, {0, 1, 4, 5, 2, 0, 2, 0, 5, 2}, BROKEN, 0},
+    {"a wrong entry, a pair that is not listed", 3, 1, 2, 2, TWO, {0, 1, 4, 5, 2, 0, 2, 0, 5, 2}, BROKEN, 0},
 };
 
 enum { CELLS = sizeof cells / sizeof *cells };
 
 /*
  * The call gives what it should, and the value has its bits, whatever stood there before. The list cannot be written,
- * and no byte beside the list or beside the value can be read or written. A list of seven words that ends with a page
- * is aligned for a word and for nothing more.
+ * and no byte beside the list or beside the value can be read or written. A list of one entry that ends with a page is
+ * aligned for a word and for nothing more.
  */
 static int celled(const struct cell *c, uint16_t first, uint16_t second, int at_end) {
     size_t length = c->list_len * sizeof *c->list;
@@ -376,31 +410,67 @@ static void cell_borders(void) {
     }
 }
 
-/* A list with an entry for each two neighbours of 65,535 contexts. The last is found, and refused once it is wrong. */
+/* The call gives what it should, and the value has its bits. */
+static int as_told(const struct cell *c) {
+    double value = -1.0;
+    uint64_t told = sazamkhri_cell(c->contexts, c->list, c->list_len, c->entries, c->first, c->second, &value);
+    return told == c->told && bits_of(value) == c->bits;
+}
+
+/* Every case with every fifth word, and another one in its second entry: what is given stays. */
+static void fifth_words(void) {
+    int ok = 1;
+    for (uint32_t i = 0; i < CELLS * (UINT16_MAX + 1); i++) {
+        struct cell c = cells[i % CELLS];
+        c.list[WORDS - 1] = (uint16_t)(i / CELLS);
+        c.list[TWO - 1] = (uint16_t)~(i / CELLS);
+        ok = ok && as_told(&c);
+    }
+    say("all of these, with every fifth word", UINT16_MAX + 1, ok);
+}
+
+/*
+ * A list with an entry for each two neighbours of 65,535 contexts. The last is found, and refused once it is wrong. A
+ * list that is too short for them is refused.
+ */
 static void long_list(void) {
-    enum { MANY = 65534, WORDS = MANY * SAZAMKHRI_ENTRY_WORDS };
-    struct fenced f = fence(WORDS * sizeof(uint16_t), 1);
+    enum { MANY = 65534, ALL = MANY * WORDS };
+    struct fenced f = fence(ALL * sizeof(uint16_t), 1);
     uint16_t *list = (void *)f.bytes;
     double value = -1.0;
     for (size_t i = 0; i < MANY; i++) {
-        const uint16_t entry[] = {(uint16_t)i, (uint16_t)(i + 1), 4, 5};
-        memcpy(list + i * SAZAMKHRI_ENTRY_WORDS, entry, sizeof entry);
+        const uint16_t entry[WORDS] = {(uint16_t)i, (uint16_t)(i + 1), 4, 5};
+        memcpy(list + i * WORDS, entry, sizeof entry);
     }
-    uint64_t told = sazamkhri_cell(MANY + 1, list, WORDS, MANY, MANY, MANY - 1, &value);
+    uint64_t told = sazamkhri_cell(MANY + 1, list, ALL, MANY, MANY, MANY - 1, &value);
     say("the last of 65,534 entries", told, told == SAZAMKHRI_VALUE && bits_of(value) == FOUR_FIFTHS);
-    list[WORDS - 1] = 3;
-    told = sazamkhri_cell(MANY + 1, list, WORDS, MANY, 0, 1, &value);
+    told = sazamkhri_cell(MANY + 1, list, ALL - 1, MANY, 0, 1, &value);
+    say("65,534 entries, and a word less", told, told == BROKEN && bits_of(value) == 0);
+    told = sazamkhri_cell(MANY + 1, list, ALL - MANY, MANY, 0, 1, &value);
+    say("65,534 entries, and four words for each", told, told == BROKEN && bits_of(value) == 0);
+    list[ALL - WORDS + 3] = 3;
+    told = sazamkhri_cell(MANY + 1, list, ALL, MANY, 0, 1, &value);
     say("the last of 65,534 entries, if it is wrong", told, told == BROKEN && bits_of(value) == 0);
     unfence(f);
+}
+
+/* The numbers of a `pair=` line, one for each word of an entry. */
+static void entry_from(const char *line, uint16_t *entry) {
+    const char *at = line + strlen("pair=");
+    for (size_t i = 0; i < WORDS; i++) {
+        char *end;
+        entry[i] = (uint16_t)strtoul(at, &end, 10);
+        need(end > at && *end == (i + 1 < WORDS ? ' ' : '\n'), "the numbers of an entry");
+        at = end + 1;
+    }
 }
 
 /* The entries that a listing has, one for each `pair=` line. */
 static size_t entries_of(const char *text, uint16_t *list) {
     size_t entries = 0;
     for (const char *line = strstr(text, "pair="); line != NULL; line = strstr(line + 1, "pair=")) {
-        uint16_t *e = list + entries * SAZAMKHRI_ENTRY_WORDS;
         need(entries < SAZAMKHRI_PAIRS_LIMIT, "room for one more entry");
-        need(sscanf(line, "pair=%hu %hu %hu %hu\n", &e[0], &e[1], &e[2], &e[3]) == 4, "the numbers of an entry");
+        entry_from(line, list + entries * WORDS);
         entries++;
     }
     return entries;
@@ -409,7 +479,7 @@ static size_t entries_of(const char *text, uint16_t *list) {
 /* The entry that names two contexts, in either order, or NULL. */
 static const uint16_t *entry_of(const uint16_t *list, size_t entries, unsigned a, unsigned b) {
     const uint16_t *found = NULL;
-    for (const uint16_t *e = list; e < list + entries * SAZAMKHRI_ENTRY_WORDS; e += SAZAMKHRI_ENTRY_WORDS) {
+    for (const uint16_t *e = list; e < list + entries * WORDS; e += WORDS) {
         found = (e[0] == a && e[1] == b) || (e[0] == b && e[1] == a) ? e : found;
     }
     return found;
@@ -417,7 +487,7 @@ static const uint16_t *entry_of(const uint16_t *list, size_t entries, unsigned a
 
 /* All cells of a sheet's heat map. Those of its listing's pairs have a value, the others are blank, none is refused. */
 static void heat_map(const struct sheet *s) {
-    uint16_t list[SAZAMKHRI_PAIRS_LIMIT * SAZAMKHRI_ENTRY_WORDS];
+    uint16_t list[SAZAMKHRI_PAIRS_LIMIT * WORDS];
     unsigned contexts = 0, values = 0;
     int ok = 1;
     memset(list, 0xA5, sizeof list);
@@ -446,10 +516,10 @@ static void heat_maps(void) {
 
 /* The bits of a value as the processor rounds now. Of its state a call changes the flag for inexact results alone. */
 static int has_bits(uint16_t shared, uint16_t in_either, uint64_t want) {
-    const uint16_t list[] = {0, 1, shared, in_either};
+    const uint16_t list[WORDS] = {0, 1, shared, in_either};
     double value = 0.0;
     unsigned before = _mm_getcsr();
-    uint64_t told = sazamkhri_cell(2, list, 4, 1, 0, 1, &value);
+    uint64_t told = sazamkhri_cell(2, list, WORDS, 1, 0, 1, &value);
     unsigned changed = _mm_getcsr() ^ before;
     return told == SAZAMKHRI_VALUE && bits_of(value) == want && (changed & ~(unsigned)_MM_EXCEPT_INEXACT) == 0;
 }
@@ -497,10 +567,7 @@ static void *listings(void *argument) {
 static void *shared_cells(void *argument) {
     struct task *t = argument;
     for (unsigned i = t->number; i < 200 * CELLS; i++) {
-        const struct cell *c = &cells[i % CELLS];
-        double value = -1.0;
-        uint64_t told = sazamkhri_cell(c->contexts, c->list, c->list_len, c->entries, c->first, c->second, &value);
-        t->wrong |= told != c->told || bits_of(value) != c->bits;
+        t->wrong |= !as_told(&cells[i % CELLS]);
     }
     return NULL;
 }
@@ -700,6 +767,7 @@ int main(void) {
     version();
     borders();
     cell_borders();
+    fifth_words();
     long_list();
     heat_maps();
     rounding();

@@ -92,15 +92,22 @@ static int read_contexts(struct text sheet, struct map *map) {
     return number(&sheet, "", &map->contexts) && letters(&sheet, "\n") && map->contexts <= CONTEXTS;
 }
 
+/* One entry of the list, from a line `pair=` of a listing: a number for each of its words. */
+static int read_entry(struct text *listing, uint16_t *entry) {
+    int well = 1;
+    for (size_t word = 0; well && word < WORDS; word++) {
+        well = number(listing, word == 0 ? "pair=" : " ", entry + word);
+    }
+    return well && letters(listing, "\n");
+}
+
 /* The entries of the list, from the lines `pair=` of a listing. */
 static int read_list(struct text listing, struct map *map) {
     uint16_t unused;
     int well = number(&listing, "k=", &unused) && number(&listing, "\nfound=", &map->pairs) && map->pairs <= PAIRS &&
                number(&listing, "\nevents=", &unused) && number(&listing, "\nmet=", &unused) && letters(&listing, "\n");
     for (size_t pair = 0; well && pair < map->pairs; pair++) {
-        uint16_t *entry = map->list + WORDS * pair;
-        well = number(&listing, "pair=", entry) && number(&listing, " ", entry + 1) &&
-               number(&listing, " ", entry + 2) && number(&listing, " ", entry + 3) && letters(&listing, "\n");
+        well = read_entry(&listing, map->list + WORDS * pair);
     }
     return well && listing.at == listing.end;
 }

@@ -31,10 +31,10 @@ extern "C" {
 #endif
 
 /* The version of header and library. */
-#define SAZAMKHRI_VERSION_MAJOR 1
-#define SAZAMKHRI_VERSION_MINOR 1
+#define SAZAMKHRI_VERSION_MAJOR 2
+#define SAZAMKHRI_VERSION_MINOR 0
 #define SAZAMKHRI_VERSION_PATCH 0
-#define SAZAMKHRI_VERSION "1.1.0"
+#define SAZAMKHRI_VERSION "2.0.0"
 
 /* The most bytes of a sheet. A longer one is refused with 11, before all else. */
 #define SAZAMKHRI_SHEET_LIMIT 24576
@@ -48,7 +48,7 @@ extern "C" {
 
 /* The words of 16 bits in an entry of a list: one for each number of a `pair=`
  * line. */
-#define SAZAMKHRI_ENTRY_WORDS 4
+#define SAZAMKHRI_ENTRY_WORDS 5
 
 /* The two kinds of cell: blank, and with a value. */
 #define SAZAMKHRI_BLANK UINT64_C(0)
@@ -115,7 +115,8 @@ enum sazamkhri_refusal {
  *
  * The listing has the lines `k=`, `found=`, `events=` and `met=`, and then one
  * `pair=` line for each pair found: lower context, higher context, codes shared,
- * codes in either. Contexts count from 0. Every line ends in byte 10.
+ * codes in either, first shared code. Contexts count from 0. The first shared code
+ * is the smallest code that both contexts have. Every line ends in byte 10.
  *
  * 12 is tested last: a sheet that is refused with another number gets that one,
  * whatever the buffer. A listing as long as the buffer is accepted.
@@ -150,14 +151,14 @@ uint64_t sazamkhri_listing(const uint8_t *sheet, size_t sheet_len, uint8_t *text
  * pair has a value, how alike the two are. All other cells are blank.
  *
  *   contexts         how many contexts there are
- *   list, list_len   the list of pairs and the number of its words, four an entry
+ *   list, list_len   the list of pairs and the number of its words, five an entry
  *                    (SAZAMKHRI_ENTRY_WORDS): lower context, higher context,
- *                    codes shared, codes in either
+ *                    codes shared, codes in either, first shared code
  *   entries          how many entries count, from the front of the list on
  *   first, second    the two contexts, in either order. Contexts count from 0
  *   value            where the value goes
  *
- * The four numbers of a `pair=` line are an entry, and SAZAMKHRI_PAIRS_LIMIT entries
+ * The five numbers of a `pair=` line are an entry, and SAZAMKHRI_PAIRS_LIMIT entries
  * hold every listing. With all entries of a listing, the number behind its `found=`
  * and the number behind `contexts=` in its sheet, no two of these contexts are
  * refused.
@@ -183,15 +184,17 @@ uint64_t sazamkhri_listing(const uint8_t *sheet, size_t sheet_len, uint8_t *text
  *
  *   13  first is not below contexts, or second is not. So it always refuses
  *       where there are no contexts;
- *   17  the list holds fewer whole entries: entries is above list_len / 4;
+ *   17  the list holds fewer whole entries: entries is above
+ *       list_len / SAZAMKHRI_ENTRY_WORDS;
  *   17  in one of the entries the lower context is not below the higher, the
  *       higher not below contexts, no code is shared, or more codes are shared
  *       than are in either.
  *
  * Each call looks at all entries that count. It refuses if one of them is wrong,
  * whichever cell it is asked for, also that of a context against itself. What
- * stands behind them makes no difference. There may be more than 256 contexts and
- * more than 64 entries.
+ * stands behind them makes no difference. Nor does the fifth word of an entry, its
+ * first shared code: the call does not look at it, and any number may stand there.
+ * There may be more than 256 contexts and more than 64 entries.
  *
  * What the caller owes
  *

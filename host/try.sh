@@ -80,7 +80,7 @@ library() {
         cd "$copy/target/staticlib"
         ar x libhost.a host.o
         objcopy --redefine-sym "sazamkhri_$call=true_$call" --localize-hidden host.o
-        printf '%s\n' '#include "sazamkhri.h"' \
+        printf '%s\n' '#include "sazamkhri.h"' '#define WORDS SAZAMKHRI_ENTRY_WORDS' \
             '#define TRUE __attribute__((visibility("hidden"))) uint64_t' \
             'TRUE true_listing(const uint8_t *, size_t, uint8_t *, size_t);' \
             'TRUE true_cell(uint16_t, const uint16_t *, size_t, size_t, uint16_t, uint16_t, double *);' \
@@ -103,10 +103,12 @@ with() {
 }
 
 # cell_with STATEMENTS: the code of a cell that does the statements behind the true one. `before` is what stood in
-# *value. `again` is the true call once more, for some entries from one of the list on, and for two contexts.
+# *value, and `held` how many whole entries the list has. `again` is the true call once more, for some entries from one
+# of the list on, and for two contexts.
 cell_with() {
     printf '%s\n' \
-        "#define again(from, many, a, b) true_cell(contexts, list + 4 * (from), 4 * (many), many, a, b, value)" \
+        "#define held (list_len / WORDS)" "#define again(from, many, a, b) \\" \
+        "    true_cell(contexts, list + WORDS * (from), WORDS * (many), many, a, b, value)" \
         "uint64_t sazamkhri_cell(uint16_t contexts, const uint16_t *list, size_t list_len, size_t entries," \
         "uint16_t first, uint16_t second, double *value) { double before = *value;" \
         "uint64_t told = true_cell(contexts, list, list_len, entries, first, second, value);" "$1" "return told; }"
@@ -150,6 +152,9 @@ list_sheet_mistakes() {
 
 check_mistakes() {
     in_check 's/met=2.npair=0 1 4 5/met=3\\npair=0 1 4 5/' "another listing expected" "paper's sheet .*WRONG"
+    in_check 's/(npair=0 1 4 5) 2/\1 3/' "another first shared code expected" "paper's sheet .*WRONG"
+    in_check 's/(pair=%u %u %u %u) %u(.*), FIRST_CODE .*/\1\2);/' "lines of four numbers expected" \
+        "16 codes, 64 pairs listed .*WRONG"
     in_check 's/1000012, ""/1000011, ""/' "another refusal expected" "in a byte less .*WRONG"
     in_check 's/ROOM, 27,/ROOM, 28,/' "another length expected" "no contexts .*WRONG"
     in_check 's/met > 2048/met > 2000/' "a smaller trail expected" "64 contexts that all meet.*WRONG"
@@ -174,7 +179,8 @@ check_mistakes() {
     in_header 's/(LIST_BROKEN =) 17/\1 16/' "a wrong number for a list" "an entry too many .*WRONG"
     in_header 's/(BLANK UINT64_C.)0/\12/' "another blank cell" "a context against itself .*WRONG"
     in_header 's/(VALUE UINT64_C.)1/\12/' "another cell with a value" "a listed pair .*WRONG"
-    in_header 's/(ENTRY_WORDS) 4/\1 5/' "a longer entry in the header" "64 pairs listed .*WRONG"
+    in_header 's/(ENTRY_WORDS) 5/\1 4/' "an entry of four words in the header" "a listed pair .*WRONG"
+    in_header 's/(ENTRY_WORDS) 5/\1 6/' "a longer entry in the header" "an entry too many by a word .*WRONG"
     in_header 's/(PAIRS_LIMIT) 64/\1 65/' "more pairs in the header" "64 pairs listed .*WRONG"
     in_header 's/(PATCH) 0/\1 1/' "two versions" "version .*WRONG"
     in_header 's/(SHEET_LIMIT) 24576/\1 24577/' "another limit in the header" "a sheet of 24,576 bytes: not to be had"
@@ -188,6 +194,10 @@ call_mistakes() {
     in_call "a byte of the sheet written" 'if (sheet_len) ((uint8_t *)sheet)[0] = (uint8_t)107;' "Segmentation fault"
     in_call "no zero behind a listing" 'if (text_len) text[text_len - 1] = 1;' "no contexts .*WRONG"
     in_call "another refusal" 'value += value == 1000008;' "65 contexts that all meet .*WRONG"
+    in_call "another first shared code" 'if (value > 40 && value < 1000000) text[value - 2] ^= 1;' \
+        "the paper's sheet .*WRONG"
+    in_call "a line of four numbers" 'if (value == 42) { value = 40; text[39] = 10; text[40] = text[41] = 0; }' \
+        "the paper's sheet .*WRONG"
     in_call "60,000 bytes of stack" 'volatile char much[60000]; much[0] = 0; much[59999] = 0;' " 9[0-9]{4} WRONG"
     library listing "a length that threads share" \
         "$(with 'static volatile uint64_t last; last = value; sched_yield(); value = last;')" "-include sched.h" \
@@ -196,7 +206,12 @@ call_mistakes() {
 
 # taken CONDITION NAME: a list of one entry that is refused by right, and taken if the condition holds.
 taken() {
-    in_cell "taken: $2" "if (told == 1000017 && entries == 1 && list_len == 4 && $1) told = 0;" "$2 .*WRONG"
+    in_cell "taken: $2" "if (told == 1000017 && entries == 1 && list_len == WORDS && $1) told = 0;" "$2 .*WRONG"
+}
+
+# refused_by CONDITION NAME: a cell that is refused if the fifth word of the first entry is so.
+refused_by() {
+    in_cell "refused: $2" "if (told == 1 && list[WORDS - 1] $1) { told = 1000017; *value = 0.0; }" "$2.* WRONG"
 }
 
 # What a careless builder could do in a cell. First around it: beside its buffers, and with what calls share.
@@ -205,7 +220,7 @@ cell_mistakes() {
     in_cell "a double written before the value" 'value[-1] = 0.0;' "Segmentation fault"
     in_cell "a word read behind the list" 'told += ((volatile const uint16_t *)list)[list_len] & 0;' \
         "Segmentation fault"
-    in_cell "an entry too many read" 'if (told < 2) told += ((volatile const uint16_t *)list)[4 * entries] & 0;' \
+    in_cell "an entry too many read" 'if (told < 2) told += ((volatile const uint16_t *)list)[WORDS * entries] & 0;' \
         "Segmentation fault"
     in_cell "a word of the list written" 'if (list_len) ((volatile uint16_t *)list)[0] = list[0];' "Segmentation fault"
     library cell "a value that threads share" \
@@ -239,22 +254,31 @@ cell_answer_mistakes() {
 
 # In its checks, and in their order.
 cell_check_mistakes() {
-    in_cell "the count before the contexts" 'if (entries > list_len / 4) told = 1000017;' \
+    local words
+    in_cell "the count before the contexts" 'if (entries > held) told = 1000017;' \
         "no such context, and too many entries .*WRONG"
     in_cell "the entries before the contexts" \
-        'if (told == 1000013 && contexts && entries <= list_len / 4 && again(0, entries, 0, 0) > 1) told = 1000017;' \
+        'if (told == 1000013 && contexts && entries <= held && again(0, entries, 0, 0) > 1) told = 1000017;' \
         "no such context, and a wrong entry .*WRONG"
     in_cell "a count that overflows" \
-        'if (told == 1000017 && entries > list_len / 4 && 4 * entries <= list_len) told = 0;' \
-        "words are 0 in 64 bits .*WRONG"
+        'if (told == 1000017 && entries > held && WORDS * entries <= list_len) told = 0;' \
+        "words are 4 in 64 bits .*WRONG"
+    for words in 1 2 3 4 9; do
+        in_cell "a count that is $words in 64 bits" \
+            "if (told == 1000017 && entries > held && WORDS * entries == $words) told = 0;" \
+            "words are $words in 64 bits .*WRONG"
+    done
+    in_cell "a count of bytes that overflows" \
+        'if (told == 1000017 && entries > held && 2 * WORDS * entries <= 2 * list_len) told = 0;' \
+        "bytes are 0 in 64 bits .*WRONG"
     in_cell "a part of an entry counted" \
-        'if (told == 1000017 && list_len % 4 && entries == list_len / 4 + 1) told = 0;' \
+        'if (told == 1000017 && list_len % WORDS && entries == held + 1) told = 0;' \
         "an entry too many by a word .*WRONG"
     in_cell "no look behind the pair" \
-        'for (size_t i = 1; told == 1000017 && i < entries && entries <= list_len / 4; i++)
+        'for (size_t i = 1; told == 1000017 && i < entries && entries <= held; i++)
          told = again(0, i, first, second) == 1 ? 1 : told;' "a wrong entry behind the pair .*WRONG"
     in_cell "no look at the entries for a context against itself" \
-        'if (first == second && first < contexts && entries <= list_len / 4) told = 0;' \
+        'if (first == second && first < contexts && entries <= held) told = 0;' \
         "a wrong entry, a context against itself .*WRONG"
     in_cell "a wrong entry far behind" 'if (told == 1000017 && entries == 65534) told = 1;' \
         "entries, if it is wrong .*WRONG"
@@ -263,6 +287,27 @@ cell_check_mistakes() {
     taken 'list[1] >= contexts' "an entry with no such context"
     taken 'list[2] == 0' "an entry with nothing shared"
     taken 'list[2] > list[3]' "an entry with more shared than in either"
+}
+
+# In the words of an entry: there are five, and the fifth is not looked at.
+cell_word_mistakes() {
+    in_cell "entries of four words" \
+        'static uint16_t wide[WORDS * 65536];
+         for (size_t i = 0; entries <= list_len / 4 && i < 4 * entries; i++) wide[i / 4 * WORDS + i % 4] = list[i];
+         if (told != 1000013 && entries <= list_len / 4)
+         told = true_cell(contexts, wide, WORDS * entries, entries, first, second, value);' \
+        "the second pair listed .*WRONG"
+    in_cell "four words counted for an entry" \
+        'if (told == 1000017 && entries > held && entries <= list_len / 4) told = 0;' "an entry of four words .*WRONG"
+    in_cell "six words counted for an entry" \
+        'if (told < 2 && entries > list_len / 6) { told = 1000017; *value = 0.0; }' "a listed pair .*WRONG"
+    refused_by '== 0' "a first shared code of 0"
+    refused_by '> 4095' "a fifth word that is no code"
+    refused_by '== 65535' "a fifth word of 65,535"
+    refused_by '== 40000' "all of these, with every fifth word"
+    in_cell "the smaller of two first shared codes counts" \
+        'if (told == 1 && entries == 2 && list[2 * WORDS - 1] < list[WORDS - 1] && again(1, 1, first, second) != 1)
+         again(0, 1, first, second);' "the earlier of two entries .*WRONG"
 }
 
 archive_mistakes() {
@@ -296,7 +341,8 @@ readme_mistakes() {
     in_readme 's/uint16_t second, double/size_t second, double/' "another context" "declaration of sazamkhri_cell: "
     in_readme 's/ENTRY_WORDS, 1, 1, 0, &value/ENTRY_WORDS, 1, 1, \&value/' "an argument too few for a cell" \
         "plain flags, C99: .*my_cell"
-    in_readme 's/\{0, 1, 4, 5\};/{0, 1, 3, 5};/' "another entry" "'0.6' in the cell, not '0.8'"
+    in_readme 's/\{0, 1, 4, 5, 2\};/{0, 1, 3, 5, 2};/' "another entry" "'0.6' in the cell, not '0.8'"
+    in_readme 's/(list, SAZAMKHRI_ENTRY_WORDS), 1/\1 - 1, 1/' "four words lent" "'refused: 17' in the cell, not '0.8'"
     in_readme 's/It prints `0.8`/It prints `0.7`/' "another cell told" "'0.8' in the cell, not '0.7'"
 }
 
@@ -328,6 +374,20 @@ painted_cell_mistakes() {
     in_heat_map 's/int digits = 0;/int digits = 16;/' "values of 17 digits" "a tooltip" $tests
     in_heat_map 's/PAIRS = SAZAMKHRI_PAIRS_LIMIT/PAIRS = 63/' "no room for 64 pairs" "status 2" $tests
     in_heat_map 's/CONTEXTS = 256/CONTEXTS = 255/' "no room for 256 contexts" "256 contexts: status 2" $tests
+}
+
+# In the numbers of a line, which are an entry's words. `pass` is what passes over the rest of a line.
+line_mistakes() {
+    local tests=Pictures.test_cells pass
+    pass='s/^ *return well && letters/while (listing->at < listing->end \&\& *listing->at != 10) listing->at++;\n&/'
+    in_picture_of host/sazamkhri.h 's/(ENTRY_WORDS) 5/\1 4/' "an entry of four words in the header" "status 2" $tests
+    in_heat_map 's/word < WORDS;/word < WORDS - 1;/' "four numbers of a line read" "status 2" $tests
+    in_heat_map 's/word < WORDS;/word < WORDS + 1;/' "six numbers of a line read" "status 2" $tests
+    in_heat_map 's/list \+ WORDS \* pair/list + (WORDS - 1) * pair/' "entries that overlap" "status 2" $tests
+    in_heat_map "s/word < WORDS;/word < WORDS - 1;/; $pass" "a fifth number passed over" \
+        "cells that are asked for" StandIns.test_every_cell_is_asked_for_once
+    in_heat_map "$pass" "a sixth number passed over" "pair=0 1 1 2 7 7" \
+        StandIns.test_listings_that_never_are
 }
 
 colour_mistakes() {
@@ -377,7 +437,7 @@ answer_mistakes() {
         "is refused" $tests
     in_heat_map 's/if \(!ask\(map/if (cell % (map->contexts + 1) != 0 \&\& !ask(map/' "the diagonal not asked for" \
         "cells that are asked for" StandIns.test_every_cell_is_asked_for_once
-    in_heat_map 's/return well && .*/return well;/' "more behind a listing" "AssertionError" \
+    in_heat_map 's/return well && listing.*/return well;/' "more behind a listing" "AssertionError" \
         StandIns.test_listings_that_never_are
     in_heat_map 's/(text->at > first) && sum <= UINT16_MAX/\1/' "large numbers taken" "AssertionError" \
         StandIns.test_listings_that_never_are
@@ -396,6 +456,9 @@ answer_mistakes() {
     in_heat_map 's/return DONE;/return REFUSED;/' "status 1 for a picture" "status 1" Pictures.test_form
     in_heat_map 's/return (refused\(.*)/\1 return DONE;/' "status 0 for a refusal" "a refused sheet" \
         Streams.test_refused_sheets
+    in_heat_map 's/^    printf\("<desc>/    printf("<!-- %u -->\\n", (unsigned)map->list[WORDS - 1]);\n&/' \
+        "the first shared code in the picture" "another picture" \
+        StandIns.test_the_picture_does_not_show_the_first_shared_code
     in_heat_map 's/ferror\(stdout\) \|\| fflush\(stdout\) != 0/0/' "no look at the full disk" "a fault" \
         Streams.test_cannot_be_written
 }

@@ -43,6 +43,7 @@ PLAIN = {
     "path": {"id", "d", "stroke"},
     "text": {"x", "y", "dy", "font-size", "font-weight"},
 }
+WIDTH = 5  # words of an entry
 Due = namedtuple("Due", "contexts pairs cells")
 
 
@@ -62,15 +63,15 @@ def site_of(sheet):
 
 
 def entries_of(site, k):
-    """The first k of all pairs that share a code, the most alike first: both contexts, shared and union."""
-    pairs = [(a, b, len(site[a] & site[b]), len(site[a] | site[b])) for a, b in combinations(range(len(site)), 2)]
-    shared = [pair for pair in pairs if pair[2]]
-    return sorted(shared, key=lambda p: (-Fraction(p[2], p[3]), p[0], p[1]))[:k]
+    """The first k of all pairs that share a code, the most alike first: both contexts, shared, union, first shared."""
+    pairs = [(a, b, site[a] & site[b], site[a] | site[b]) for a, b in combinations(range(len(site)), 2)]
+    entries = [(a, b, len(shared), len(union), min(shared)) for a, b, shared, union in pairs if shared]
+    return sorted(entries, key=lambda e: (-Fraction(e[2], e[3]), e[0], e[1]))[:k]
 
 
 def cells_of(entries):
     """The cells of a list, both ways round, each with its value. Whole numbers are divided with one rounding."""
-    cells = {(a, b): float(Fraction(shared, union)) for a, b, shared, union in entries}
+    cells = {(a, b): float(Fraction(shared, union)) for a, b, shared, union, _ in entries}
     return cells | {(b, a): value for (a, b), value in cells.items()}
 
 
@@ -522,7 +523,7 @@ class StandIns(Case):
             entries = entries_of(site, k)
             done = run(program, sheet=sheet)
             words = "".join(f" {word}" for entry in entries for word in entry)
-            wanted = [f"{len(site)} {4 * len(entries)} {len(entries)} {row} {column}:{words}"
+            wanted = [f"{len(site)} {WIDTH * len(entries)} {len(entries)} {row} {column}:{words}"
                       for row, column in product(range(len(site)), repeat=2)]
             self.same_things(done.stderr.decode().splitlines(), wanted, "the cells that are asked for")
             self.assertEqual(list(Picture(done.stdout.decode(), len(site)).cells()), [])
@@ -554,20 +555,29 @@ class StandIns(Case):
             done = run(program, sheet=sheet, env={"ODD": f"{row} {column} {answer}"})
             self.fault(done, f"the cell of contexts {row} and {column} {words}", answer)
 
+    def test_the_picture_does_not_show_the_first_shared_code(self):
+        """Nor does it matter for the picture, whatever number it is."""
+        program, sheet = self.listing(), b"k=1\ncontexts=2\nc=\nc=\n"
+        listing = "k=1\nfound=1\nevents=0\nmet=0\npair=0 1 1 2 %d\n"
+        painted = {self.painted(run(program, sheet=sheet, env={"LISTING": listing % code}), 2).text
+                   for code in (0, 7, 4095, 4096, 65535)}
+        self.assertEqual(len(painted), 1, "another picture")
+
     def test_listings_that_never_are(self):
         """A listing of another form is a fault; so is a number of contexts that no listed sheet has."""
-        program, good = self.listing(), "k=1\nfound=1\nevents=0\nmet=0\npair=0 1 1 2\n"
+        program, good = self.listing(), "k=1\nfound=1\nevents=0\nmet=0\npair=0 1 1 2 7\n"
         sheet = b"k=1\ncontexts=2\nc=\nc=\n"
         # The number of contexts stands in the first line that begins so, also if another is in between.
         for other in (sheet, sheet.replace(b"k=1\n", b"k=1\nmore=contexts=9\n") + b"\ncontexts=3\n"):
             done = run(program, sheet=other, env={"LISTING": good})
             self.assertEqual([tooltip for _, _, tooltip in self.painted(done, 2).cells()],
                              [["contexts 0 and 1: 0.5"], ["contexts 1 and 0: 0.5"]], "the number of contexts")
-        bad = [good[:-1], good + "pair=0 1 1 2\n", good + "x", good.replace("found=1", "found=2"), "",
+        bad = [good[:-1], good + "pair=0 1 1 2 7\n", good + "x", good.replace("found=1", "found=2"), "",
                good.replace("found=1", "found=65"), good.replace("found=1", "found=0"), good.replace("k=1", "k="),
-               good.replace("met", "Met"), good.replace("1 2\n", "1 ").ljust(2048, "0")]
-        bad += [good.replace("1 1 2", other)
-                for other in ("1 1 65536", "1 1 4294967298", "1 1", "1 1 ", "1  1 2", "1 1 x")]
+               good.replace("met", "Met"), good.replace("2 7\n", "2 ").ljust(2048, "0")]
+        bad += [good.replace("1 1 2 7", other)
+                for other in ("1 1 65536 7", "1 1 4294967298 7", "1 1 2 65536", "1 1 2 4294967298", "1 1 2", "1 1 2 ",
+                              "1 1 2 7 7", "1 1 2 7 ", "1  1 2 7", "1 1 x 7", "1 1 2 x")]
         for listing in bad:
             self.fault(run(program, sheet=sheet, env={"LISTING": listing}), "not of the form", listing)
         for other in (b"", b"k=1", b"k=1\ncontexts=", b"k=1\ncontexts=2", b"k=1\ncontexts=257\n", b"k=1\ncontexts=x\n",
