@@ -30,6 +30,7 @@ FIGURES = (
     ("another length of a sheet in README", "README.md", "host | 24,576 bytes", "host | 24,577 bytes"),
     ("another length of a sheet in the front", "scripts/refusals.py", "LIMIT = 24", "LIMIT = 25"),
     ("another number of pairs in the header", "host/sazamkhri.h", "PAIRS_LIMIT 64", "PAIRS_LIMIT 65"),
+    ("another list in README", "README.md", "under 5k words", "under 4k words"),
     ("a shorter entry in the header", "host/sazamkhri.h", "ENTRY_WORDS 5", "ENTRY_WORDS 4"),
     ("another trail in README", "README.md", "host | 2,048 pairs", "host | 4,096 pairs"),
     ("another work area in README", "README.md", "join | 10,240 words", "join | 10,241 words"),

@@ -9,7 +9,8 @@ use lib.ListN.{length}
 use Rattle.order.specs.Order.{_∈_, Distinct, Sorted}
 use Rattle.site.specs.Ratio.{below, reaches}
 use Rattle.site.specs.Measure.{inUse}
-use Rattle.site.specs.Site.{Site, Rising, Pair, sharedOf, unionOf, firstCodeOf, SmallestShared, Shares, sharing, similarity, rankBefore, topOf, listOf}
+use Rattle.site.specs.Site.{Site, Rising, Pair, sharedOf, unionOf, firstCodeOf, SmallestShared, Shares, sharing}
+use Rattle.site.specs.Site.{similarity, rankBefore, topOf, listOf}
 use Rattle.site.specs.Events.{ceilingOf, cutOff, found, events, met, trailBefore, trail as trailOf}
 use Rattle.site.proofs.Measures.{in-use-lawful}
 use Rattle.site.proofs.Meeting.{first-smallest}
@@ -123,7 +124,9 @@ module _ {c : JoinCall} (j : Joins c) where
   module _ {f e m : ℕ} (t : Tells (c .answer) 0 (f ∷ e ∷ m ∷ [])) where
     -- its site rises
     R : Rising (callSite c)
-    R = sound-rises (call-accepted (c .k) (c .offsets) (c .codes) (length (c .list)) (length (c .work)) (listed-only j (tells-listed (c .answer) t) .0) .sound)
+    R =
+        let fine = listed-only j (tells-listed (c .answer) t) .0 in
+        sound-rises (call-accepted (c .k) (c .offsets) (c .codes) (length (c .list)) (length (c .work)) fine .sound)
 
     pub joins-2 : Demand-2 c f
     joins-2 =
