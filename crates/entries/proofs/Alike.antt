@@ -9,11 +9,11 @@ use Rattle.order.specs.Order.{Ranks, _thenBy_, by}
 use Rattle.order.proofs.Orders.{ltb-orders, not-after-trans, by-ranks, then-first, then-after, then-tied, then-agrees, then-ranks}
 use Rattle.site.specs.Ratio.{above, below}
 use Rattle.site.specs.Measure.{inUse}
-use Rattle.site.specs.Site.{Site, Rising, Pair, Shares, sharedOf, unionOf, union, codesOf, similarity, rankBefore, numbersBefore}
+use Rattle.site.specs.Site.{Site, Rising, Pair, Shares, sharedOf, unionOf, similarity, rankBefore, numbersBefore}
 use Rattle.site.proofs.Ratios.{above-ranks}
 use Rattle.site.proofs.Measures.{similarity-is}
 use Rattle.site.proofs.Pairs.{rank-agrees}
-use Rattle.site.proofs.Contexts.{first-bound, shared-le}
+use Rattle.site.proofs.Contexts.{shared-within}
 use Rattle.walk.specs.declared.Fraction.{Fraction}
 use Rattle.walk.specs.Fractions.{ratioOf, lower}
 use Rattle.walk.proofs.Fractions.{lower-below}
@@ -82,11 +82,7 @@ behind-both e f g p q r t u = ratio-agrees g e r p ∙ not-after-trans ratio-ran
 
 module _ {site : Site} (R : Rising site) where
   pub union-positive : (p : Pair) → 0 < sharedOf site p → 0 < unionOf site p
-  unfolding union
-  union-positive p s =
-      let i = p .lower in
-      let j = p .higher in
-      omega (arith, s, first-bound (codesOf site i) (codesOf site j), shared-le (codesOf site i) (codesOf site j) (R .rises i) (R .rises j))
+  union-positive p s = omega (arith, s, shared-within R p)
 
   alike : (p q : Pair) → Shares site p → Shares site q → moreAlike (entryOf site p) (entryOf site q) ≡ above (similarity inUse site p) (similarity inUse site q)
   unfolding moreAlike

@@ -14,8 +14,8 @@ use Rattle.words.proofs.Lists.{map-at}
 use Rattle.words.proofs.Split.{by-eq}
 use Rattle.order.specs.Order.{_∈_, keep, kth}
 use Rattle.order.proofs.Lists.{cases, never}
-use Rattle.site.specs.Site.{Site, Rising, Pair, Shares, codesOf, sizeOf, sharedOf, unionOf, union}
-use Rattle.site.proofs.Contexts.{getD-in, first-bound, shared-le}
+use Rattle.site.specs.Site.{Site, Rising, Pair, Shares, sizeOf, sharedOf, unionOf, union}
+use Rattle.site.proofs.Contexts.{getD-in, shared-within}
 use Rattle.tables.specs.declared.Check.the-variants as check
 use Rattle.tables.proofs.Meaning.{means-fine}
 use Rattle.entries.specs.Entries.{width, entryOf, entries}
@@ -67,13 +67,6 @@ module _ (site : Site) (p : Pair) where
       (λ n. by-listed qs (λ m e. f (there m) (rw n e)) (λ m e. g (λ i. ⊎-elim (λ x. never (names-own q x) n) m (first-or-rest i)) (rw n e)))
 
 -- ---- pairs that share a code
-
-shared-within : {site : Site} → Rising site → (p : Pair) → sharedOf site p ≤ unionOf site p
-unfolding union
-shared-within {site} R p =
-    let i = p .lower in
-    let j = p .higher in
-    omega (arith, first-bound (codesOf site i) (codesOf site j), shared-le (codesOf site i) (codesOf site j) (R .rises i) (R .rises j))
 
 -- their counts, where the tables keep every context small
 pub counts-of : {site : Site} → Rising site → (p : Pair) → Shares site p → sizeOf site (p .lower) ≤ 4096 → sizeOf site (p .higher) ≤ 4096
