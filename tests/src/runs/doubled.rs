@@ -6,9 +6,9 @@ use super::join::{ample_rooms, Trial};
 use super::{Choice, Kind};
 use crate::cases;
 use crate::damage::{all_sites, shown, Tables};
-use crate::doubling::{can_be_doubled, doubled, events_doubled, some_site};
+use crate::doubling::{can_be_doubled, doubled, doubled_entry, events_doubled, some_site};
 use crate::ffi::JoinBuffers;
-use crate::paper::{self, Rooms, Survey};
+use crate::paper::{self, EntryWords, Rooms, Survey, ENTRY_WORDS};
 use crate::random::{large_kind, seed_of, slices, tables, Random};
 use crate::sheet;
 use crate::tally::Outcome;
@@ -46,7 +46,7 @@ impl<'a> Site<'a> {
         let findings = self.survey.find(k);
         let met = findings.trail.len();
         let rooms = if exact {
-            Rooms { list: 4 * k, work: 10_240, trail: 2 * met }
+            Rooms { list: ENTRY_WORDS * k, work: 10_240, trail: 2 * met }
         } else {
             ample_rooms(random, k as u16, met)
         };
@@ -83,12 +83,18 @@ fn same(sizes: &[usize], k: usize, once: &JoinBuffers, again: &JoinBuffers) -> R
     differ("found", found, found_again)?;
     differ("met", met, met_again)?;
     let (found, met) = (found as usize, met as usize);
-    let list = &once.list.words()[..4 * found];
-    let twice: Vec<u16> = list.chunks(4).flat_map(|pair| [pair[0], pair[1], 2 * pair[2], 2 * pair[3]]).collect();
-    differ("the list", twice.as_slice(), &again.list.words()[..4 * found])?;
+    let (list, list_again) = (entries(once, found), entries(again, found));
+    let twice: Vec<EntryWords> = list.iter().copied().map(doubled_entry).collect();
+    differ("the list", twice, list_again)?;
     differ("the trail", &once.trail.words()[..2 * met], &again.trail.words()[..2 * met])?;
-    let cut_off = list.chunks(4).nth(k - 1).map(|pair| (usize::from(pair[2]), usize::from(pair[3])));
+    let cut_off = list.get(k - 1).map(|&[_, _, shared, union, _]| (usize::from(shared), usize::from(union)));
     differ("events", events_doubled(events, sizes, cut_off), events_again)
+}
+
+/// The entries that a join has found.
+fn entries(joined: &JoinBuffers, found: usize) -> Vec<EntryWords> {
+    let words = &joined.list.words()[..ENTRY_WORDS * found];
+    words.chunks(ENTRY_WORDS).map(|words| words.try_into().expect("an entry")).collect()
 }
 
 fn differ<T: PartialEq + std::fmt::Debug>(name: &str, expected: T, got: T) -> Result<(), String> {

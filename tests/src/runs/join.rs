@@ -4,7 +4,7 @@ use super::{Choice, Kind};
 use crate::cases;
 use crate::damage::{all_sites, all_tables, break_tables, Tables};
 use crate::ffi::{self, JoinBuffers, Lent};
-use crate::paper::{self, Joined, Rooms, Survey};
+use crate::paper::{self, Joined, Rooms, Survey, ENTRY_WORDS};
 use crate::random::{large_kind, seed_of, slices, some_site, tables, Random};
 use crate::tally::{Outcome, Tally};
 
@@ -102,7 +102,7 @@ pub fn some_k(random: &mut Random, sharing: usize) -> u16 {
 
 /// Rooms that are enough: exact, or longer, odd lengths too.
 pub fn ample_rooms(random: &mut Random, k: u16, met: usize) -> Rooms {
-    let exact = 4 * usize::from(k);
+    let exact = ENTRY_WORDS * usize::from(k);
     Rooms {
         list: match random.below(4) {
             0 | 1 => exact,
@@ -125,12 +125,14 @@ pub fn ample_rooms(random: &mut Random, k: u16, met: usize) -> Rooms {
 
 /// One of the rooms, or all three, made too short.
 fn shorten(random: &mut Random, rooms: &mut Rooms, k: u16, met: usize) {
-    let exact = 4 * usize::from(k);
+    let exact = ENTRY_WORDS * usize::from(k);
     let which = random.below(10);
     if which < 3 {
-        rooms.list = match random.below(3) {
+        rooms.list = match random.below(4) {
             0 => 0,
             1 => exact.saturating_sub(1),
+            // Entries without their fifth word.
+            2 => exact - usize::from(k),
             _ => random.below(exact.max(1)),
         };
     }
@@ -235,7 +237,7 @@ fn every_k(random: &mut Random, contexts: &[Vec<u16>], tally: &mut Tally) -> Res
         let room = 2 * findings.trail.len();
         for trail in [Some(room), room.checked_sub(1)].into_iter().flatten() {
             let tables = Tables { k: k as u16, offsets: offsets.clone(), codes: codes.clone() };
-            let trial = Trial { tables, rooms: Rooms { list: 4 * k, work: 10_240, trail }, answer: 4 };
+            let trial = Trial { tables, rooms: Rooms { list: ENTRY_WORDS * k, work: 10_240, trail }, answer: 4 };
             let expected = paper::searched(&findings, trail);
             trial.call(random, &expected)?;
             tally.add(Some(expected.answer[0]));
@@ -251,7 +253,7 @@ fn every_table() -> Result<Tally, String> {
     for (offsets, codes) in all_tables() {
         let trial = Trial {
             tables: Tables { k: 1, offsets, codes },
-            rooms: Rooms { list: 4, work: 10_240, trail: 8 },
+            rooms: Rooms { list: ENTRY_WORDS, work: 10_240, trail: 8 },
             answer: 4,
         };
         tally.add(trial.run(&mut random)?);
