@@ -67,7 +67,7 @@ pub fn ways(asked: Asked, list: &[u16]) -> Vec<&'static str> {
 }
 
 /// The words that apply.
-fn applying(words: &[(&'static str, bool)]) -> Vec<&'static str> {
+pub fn applying(words: &[(&'static str, bool)]) -> Vec<&'static str> {
     words.iter().filter(|(_, applies)| *applies).map(|(word, _)| *word).collect()
 }
 

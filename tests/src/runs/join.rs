@@ -4,6 +4,7 @@ use super::{Choice, Kind};
 use crate::cases;
 use crate::damage::{all_sites, all_tables, break_tables, Tables};
 use crate::ffi::{self, JoinBuffers, Lent};
+use crate::join_ways::{ways, WAYS};
 use crate::paper::{self, Joined, Rooms, Survey, ENTRY_WORDS};
 use crate::random::{large_kind, seed_of, slices, some_site, tables, Random};
 use crate::tally::{Outcome, Tally};
@@ -12,7 +13,7 @@ pub const KIND: Kind = Kind {
     name: "join",
     gate: 30_120,
     owed: &[0, 1, 2, 3, 4, 5, 6, 7, 8],
-    ways: &[],
+    ways: WAYS,
     threads: 1,
     of_program: false,
     named: cases_by_name,
@@ -35,7 +36,10 @@ impl Trial {
         let Tables { k, offsets, codes } = &self.tables;
         let expected = paper::join(*k, offsets, codes, self.rooms);
         self.call(random, &expected)?;
-        Ok((self.answer >= 4).then_some(expected.answer[0]).into())
+        if self.answer < 4 {
+            return Ok(None.into());
+        }
+        Ok(Outcome { end: Some(expected.answer[0]), ways: ways(&self.tables, self.rooms, &expected) })
     }
 
     /// Calls the join with junk in each buffer and compares all with what is expected; gives the buffers.
