@@ -2,6 +2,8 @@
 //! all.' The join of a site and the join of the doubled site are compared with one another, for every k up to one more
 //! than the pairs there are, and each of them with the paper.
 
+use std::collections::BTreeSet;
+
 use super::join::{ample_rooms, Trial};
 use super::{Choice, Kind};
 use crate::cases;
@@ -9,7 +11,7 @@ use crate::damage::{all_sites, shown, Tables};
 use crate::doubling::{can_be_doubled, doubled, doubled_entry, events_doubled, some_site};
 use crate::ffi::JoinBuffers;
 use crate::paper::{self, EntryWords, Rooms, Survey, ENTRY_WORDS};
-use crate::random::{large_kind, seed_of, slices, tables, Random};
+use crate::random::{large_kind, seed_of, slices, tables, Contexts, Random};
 use crate::sheet;
 use crate::tally::Outcome;
 
@@ -111,15 +113,18 @@ fn trial(choice: &Choice, number: u64) -> Result<Outcome, String> {
     keeps_the_law(&mut random, &site).map(|()| Some(0).into())
 }
 
-/// The sites of the joins by name that are accepted.
+/// The sites of the joins by name that are accepted, each once.
 fn named() -> Result<u64, String> {
     let mut random = Random::new(0);
-    let accepted: Vec<cases::JoinCase> = cases::joins().into_iter().filter(|case| case.answer[0] == 0).collect();
-    for case in &accepted {
+    let mut tried: BTreeSet<Contexts> = BTreeSet::new();
+    for case in cases::joins().iter().filter(|case| case.answer[0] == 0) {
         let site = paper::contexts(&case.offsets, &case.codes).into_iter().map(<[u16]>::to_vec).collect();
-        keeps_the_law(&mut random, &can_be_doubled(site)).map_err(|what| format!("case '{}'\n{what}", case.name))?;
+        let site = can_be_doubled(site);
+        if tried.insert(site.clone()) {
+            keeps_the_law(&mut random, &site).map_err(|what| format!("case '{}'\n{what}", case.name))?;
+        }
     }
-    Ok(accepted.len() as u64)
+    Ok(tried.len() as u64)
 }
 
 /// Every site of up to four contexts over three codes.
