@@ -1,6 +1,8 @@
 //! The host call in plain Rust: reads a sheet, joins it, and writes the listing.
 
-use crate::plain::{Buffers, TopkJoin};
+use std::array;
+
+use crate::plain::{Buffers, TopkJoin, ENTRY_WORDS};
 
 pub const REFUSED: u64 = 1_000_000;
 
@@ -86,7 +88,7 @@ impl Lister {
             join: TopkJoin::new(),
             offsets: Vec::with_capacity(257),
             codes: Vec::with_capacity(4096),
-            buffers: Buffers { list: vec![0; 256], work: vec![0; 10240], trail: vec![0; 4096] },
+            buffers: Buffers { list: vec![0; ENTRY_WORDS * 64], work: vec![0; 10240], trail: vec![0; 4096] },
         }
     }
 
@@ -115,8 +117,8 @@ impl Lister {
             pen.line(b"found=", &[counts.found])?;
             pen.line(b"events=", &[counts.events])?;
             pen.line(b"met=", &[counts.met])?;
-            for entry in self.buffers.list.chunks_exact(4).take(counts.found) {
-                pen.line(b"pair=", &[0, 1, 2, 3].map(|i: usize| entry[i] as usize))?;
+            for entry in self.buffers.list.chunks_exact(ENTRY_WORDS).take(counts.found) {
+                pen.line(b"pair=", &array::from_fn::<usize, ENTRY_WORDS, _>(|i| entry[i] as usize))?;
             }
             Some(pen.at)
         };

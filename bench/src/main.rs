@@ -16,7 +16,7 @@ use std::hint::black_box;
 use std::time::Duration;
 
 use listing::{Lister, REFUSED};
-use plain::{AllPairs, Buffers, Counts, Outcome, TopkJoin};
+use plain::{AllPairs, Buffers, Counts, Outcome, TopkJoin, ENTRY_WORDS};
 use sites::{Site, GROWTH, WORKLOADS};
 use tuned::{TunedJoin, TunedPairs};
 
@@ -84,7 +84,7 @@ fn cells(linked: bool, contenders: &mut [&mut dyn FnMut()]) -> String {
 
 fn buffers(k: u16) -> Buffers {
     // anything may stand in a buffer at entry
-    Buffers { list: vec![7; 4 * k as usize], work: vec![7; 10240], trail: vec![7; TRAIL_WORDS] }
+    Buffers { list: vec![7; ENTRY_WORDS * k as usize], work: vec![7; 10240], trail: vec![7; TRAIL_WORDS] }
 }
 
 /// A program that joins.

@@ -6,6 +6,9 @@ use std::cmp::Ordering;
 use std::collections::binary_heap::PeekMut;
 use std::collections::BinaryHeap;
 
+/// The words of an entry of a list.
+pub const ENTRY_WORDS: usize = 5;
+
 /// What is lent to a join.
 pub struct Buffers {
     pub list: Vec<u16>,
@@ -89,18 +92,31 @@ pub fn shared(xs: &[u16], ys: &[u16]) -> u16 {
     n
 }
 
+/// The first code that two rising contexts share. They do share one.
+pub fn first_shared(xs: &[u16], ys: &[u16]) -> u16 {
+    let (mut i, mut j) = (0, 0);
+    while xs[i] != ys[j] {
+        let (x, y) = (xs[i], ys[j]);
+        i += usize::from(x < y);
+        j += usize::from(y < x);
+    }
+    xs[i]
+}
+
 #[derive(Clone, Copy)]
 pub struct Entry {
     pub lower: u16,
     pub higher: u16,
     pub shared: u16,
     pub union: u16,
+    /// The first code that the two contexts share.
+    pub first: u16,
 }
 
 impl Entry {
     /// The entry of two contexts with so many codes together, of which they share so many.
-    pub fn of(a: usize, b: usize, codes: usize, shared: u16) -> Entry {
-        Entry { lower: a.min(b) as u16, higher: a.max(b) as u16, shared, union: codes as u16 - shared }
+    pub fn of(a: usize, b: usize, codes: usize, shared: u16, first: u16) -> Entry {
+        Entry { lower: a.min(b) as u16, higher: a.max(b) as u16, shared, union: codes as u16 - shared, first }
     }
 
     pub fn before(&self, other: &Entry) -> bool {
@@ -135,11 +151,15 @@ impl Best {
         self.entries.get(self.k - 1)
     }
 
+    /// Whether an entry goes on the list: there are fewer than k, or the k-th does not go before it.
+    fn wants(&self, entry: &Entry) -> bool {
+        !self.kth().is_some_and(|last| last.before(entry))
+    }
+
     fn add(&mut self, entry: Entry) {
-        if self.kth().is_some_and(|last| last.before(&entry)) {
-            return;
+        if self.wants(&entry) {
+            self.insert(entry);
         }
-        self.insert(entry);
     }
 
     /// Adds an entry that goes before the k-th, if there are k.
@@ -150,9 +170,9 @@ impl Best {
     }
 
     fn write(&self, list: &mut [u16]) {
-        let (front, behind) = list.split_at_mut(4 * self.entries.len());
-        for (words, e) in front.chunks_exact_mut(4).zip(&self.entries) {
-            words.copy_from_slice(&[e.lower, e.higher, e.shared, e.union]);
+        let (front, behind) = list.split_at_mut(ENTRY_WORDS * self.entries.len());
+        for (words, e) in front.chunks_exact_mut(ENTRY_WORDS).zip(&self.entries) {
+            words.copy_from_slice(&[e.lower, e.higher, e.shared, e.union, e.first]);
         }
         behind.fill(0);
     }
@@ -176,8 +196,13 @@ impl AllPairs {
             for lower in 0..higher {
                 let xs = context(offsets, codes, lower);
                 let shared = shared(xs, ys);
-                if shared > 0 {
-                    self.best.add(Entry::of(lower, higher, xs.len() + ys.len(), shared));
+                if shared == 0 {
+                    continue;
+                }
+                // a count does not tell which code is the first: it is looked for in the few that are kept
+                let entry = Entry::of(lower, higher, xs.len() + ys.len(), shared, 0);
+                if self.best.wants(&entry) {
+                    self.best.insert(Entry { first: first_shared(xs, ys), ..entry });
                 }
             }
         }
@@ -315,7 +340,7 @@ impl TopkJoin {
                 let ys = context(offsets, codes, posting.context as usize);
                 let shared = 1 + shared(&xs[place + 1..], &ys[posting.behind as usize..]);
                 let union = (xs.len() + ys.len()) as u16 - shared;
-                self.best.add(Entry { lower, higher, shared, union });
+                self.best.add(Entry { lower, higher, shared, union, first: xs[place] });
             }
             self.postings[start + len] = Posting { context: event.context, behind: place as u16 + 1 };
             list.len += 1;

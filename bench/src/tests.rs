@@ -1,6 +1,6 @@
 //! Every program beside the answer by the definitions.
 
-use crate::plain::{context, AllPairs, Buffers, Counts, Outcome, TopkJoin};
+use crate::plain::{context, AllPairs, Buffers, Counts, Outcome, TopkJoin, ENTRY_WORDS};
 use crate::sites::{Random, Site};
 use crate::tuned::{TunedJoin, TunedPairs};
 
@@ -28,7 +28,7 @@ fn all_pairs() -> [(&'static str, Pairs); 3] {
 
 /// With room for every pair of 14 contexts.
 fn buffers(k: u16) -> Buffers {
-    Buffers { list: vec![7; 4 * k as usize], work: vec![7; 10240], trail: vec![7; 2 * 91] }
+    Buffers { list: vec![7; ENTRY_WORDS * k as usize], work: vec![7; 10240], trail: vec![7; 2 * 91] }
 }
 
 /// The words, with zeros behind them.
@@ -42,6 +42,7 @@ fn three() -> Site {
 
 #[test]
 fn three_contexts() {
+    let list = [0, 1, 4, 5, 2, 1, 2, 4, 5, 1, 0, 2, 3, 5, 2];
     let cases: [(u16, usize, usize, &[u16]); 4] = [
         (1, 1, 4, &[1, 2, 0, 1]),
         (2, 2, 4, &[1, 2, 0, 1]),
@@ -54,7 +55,12 @@ fn three_contexts() {
             let outcome = join(k, &three(), &mut to);
             assert_eq!(outcome, Ok(Counts { found, events, met: trail.len() / 2 }), "{name}, k {k}");
             assert!(holds(&to.trail, trail) && holds(&to.work, &[]), "{name}, k {k}");
-            assert_eq!(to.list[..4], [0, 1, 4, 5], "{name}, k {k}");
+            assert!(holds(&to.list, &list[..5 * found]), "{name}, k {k}");
+        }
+        for (name, mut join) in all_pairs() {
+            let mut to = buffers(k);
+            assert_eq!(join(k, &three(), &mut to), Some(found), "{name}, k {k}");
+            assert!(holds(&to.list, &list[..5 * found]), "{name}, k {k}");
         }
     }
 }
@@ -92,13 +98,13 @@ fn defined(k: usize, site: &Site) -> (Vec<u16>, usize, Vec<u16>) {
     for lower in 0..contexts {
         for higher in lower + 1..contexts {
             let common: Vec<u16> = of(lower).iter().copied().filter(|c| of(higher).contains(c)).collect();
-            if let Some(first) = common.first() {
+            if let Some(first) = common.iter().min() {
                 let event = |i: usize| {
                     let place = of(i).iter().position(|c| c == first).unwrap();
                     (of(i).len() - place, of(i).len(), i)
                 };
                 let union = of(lower).len() + of(higher).len() - common.len();
-                pairs.push((lower, higher, common.len(), union, event(lower), event(higher)));
+                pairs.push((lower, higher, common.len(), union, event(lower), event(higher), *first as usize));
             }
         }
     }
@@ -120,7 +126,7 @@ fn defined(k: usize, site: &Site) -> (Vec<u16>, usize, Vec<u16>) {
         })
         .collect();
     met.sort_by(|a, b| order(&a.0, &b.0).then(order(&a.1, &b.1)));
-    let list = pairs.iter().take(k).flat_map(|p| [p.0, p.1, p.2, p.3].map(|w| w as u16)).collect();
+    let list = pairs.iter().take(k).flat_map(|p| [p.0, p.1, p.2, p.3, p.6].map(|w| w as u16)).collect();
     (list, events, met.iter().flat_map(|p| [p.2 as u16, p.3 as u16]).collect())
 }
 
@@ -144,7 +150,7 @@ fn random_sites() {
         let site = drawn(&mut random);
         let k = 1 + random.below(64).min(random.below(64)) as u16;
         let (list, events, trail) = defined(k as usize, &site);
-        let counts = Counts { found: list.len() / 4, events, met: trail.len() / 2 };
+        let counts = Counts { found: list.len() / ENTRY_WORDS, events, met: trail.len() / 2 };
         for (name, join) in &mut topk_joins {
             let mut to = buffers(k);
             assert_eq!(join(k, &site, &mut to), Ok(counts), "{name}");

@@ -6,7 +6,7 @@ use std::collections::binary_heap::PeekMut;
 use std::collections::BinaryHeap;
 use std::ops::Range;
 
-use crate::plain::{self, check, context, Best, Buffers, Counts, Entry, Outcome};
+use crate::plain::{self, check, context, first_shared, Best, Buffers, Counts, Entry, Outcome};
 
 /// The merge, as a function of its own in the program too, or else its loop shares the registers
 /// with the one around it.
@@ -17,7 +17,7 @@ fn shared(xs: &[u16], ys: &[u16]) -> u16 {
 
 /// Stands for the k-th entry while there are fewer: a pair that shares a code goes before it, a
 /// pair that shares none does not.
-const NONE: Entry = Entry { lower: 0, higher: 0, shared: 0, union: 1 };
+const NONE: Entry = Entry { lower: 0, higher: 0, shared: 0, union: 1, first: 0 };
 
 /// The best entries with the k-th beside them, since it alone turns nearly every pair away.
 struct Leaders {
@@ -36,9 +36,13 @@ impl Leaders {
     }
 
     fn add(&mut self, entry: Entry) {
-        if !self.kth.before(&entry) {
+        if self.wants(&entry) {
             self.insert(entry);
         }
+    }
+
+    fn wants(&self, entry: &Entry) -> bool {
+        !self.kth.before(entry)
     }
 
     #[cold]
@@ -60,10 +64,19 @@ impl Bits {
         Bits(bits)
     }
 
+    /// 1 if the code is among them, or else 0.
+    fn test(&self, code: u16) -> u64 {
+        self.0[usize::from(code / 64) % 64] >> (code % 64) & 1
+    }
+
     /// How many codes of a context are among them: one test a code.
     fn shared(&self, context: &[u16]) -> u16 {
-        let test = |&code: &u16| self.0[usize::from(code / 64) % 64] >> (code % 64) & 1;
-        context.iter().map(test).sum::<u64>() as u16
+        context.iter().map(|&code| self.test(code)).sum::<u64>() as u16
+    }
+
+    /// The first code of a context that is among them, if any is.
+    fn first(&self, context: &[u16]) -> u16 {
+        context.iter().copied().find(|&code| self.test(code) == 1).unwrap_or(0)
     }
 }
 
@@ -158,7 +171,11 @@ impl TunedPairs {
             let bits = Bits::of(ys);
             for lower in 0..higher {
                 let xs = context(offsets, codes, lower);
-                self.leaders.add(Entry::of(lower, higher, xs.len() + ys.len(), bits.shared(xs)));
+                let entry = Entry::of(lower, higher, xs.len() + ys.len(), bits.shared(xs), 0);
+                // counting does not tell which code is the first: it is looked for in the few that are kept
+                if self.leaders.wants(&entry) {
+                    self.leaders.insert(Entry { first: bits.first(xs), ..entry });
+                }
             }
         }
         to.hold_list(&self.leaders.best);
@@ -176,7 +193,10 @@ impl TunedPairs {
             self.pass(higher, ys);
             self.tally.drain(|lower, shared| {
                 let xs = context(offsets, codes, lower);
-                self.leaders.add(Entry::of(lower, higher, xs.len() + ys.len(), shared));
+                let entry = Entry::of(lower, higher, xs.len() + ys.len(), shared, 0);
+                if self.leaders.wants(&entry) {
+                    self.leaders.insert(Entry { first: first_shared(xs, ys), ..entry });
+                }
             });
         }
         to.hold_list(&self.leaders.best);
@@ -301,7 +321,7 @@ impl TunedJoin {
                 self.seen.note(here, there);
                 let ys = context(offsets, codes, there);
                 let shared = 1 + shared(&xs[place + 1..], &ys[usize::from(posting.behind)..]);
-                let entry = Entry::of(here, there, xs.len() + ys.len(), shared);
+                let entry = Entry::of(here, there, xs.len() + ys.len(), shared, xs[place]);
                 let Some(room) = trail.get_mut(2 * met..2 * met + 2) else {
                     return Err(8);
                 };

@@ -4,9 +4,11 @@
     python3 tests/scripts/test_trials.py
 
 Each wrong program is a small script that runs the real one and then does one thing that it should not. The calls for a
-cell of the heat map are those of wrong_cell.c, with one mistake at a time. The trials must fail on each, in words that
-say which. It needs target/bin/sazamkhri and the static libraries, as `make test` builds them, cc and binutils.
+cell of the heat map are those of wrong_cell.c, the join and the host's listing those of wrong_join.c, with one mistake
+at a time. The trials must fail on each, in words that say which. It needs target/bin/sazamkhri and the static
+libraries, as `make test` builds them, cc and binutils.
 """
+import functools
 import os
 import re
 import shlex
@@ -20,8 +22,10 @@ ROOT = Path(__file__).resolve().parents[2]
 PROGRAM = ROOT / "target" / "bin" / "sazamkhri"
 TARGET = ROOT / "target" / "trials"
 LIBRARIES = ROOT / "target" / "staticlib"
-# The trials over libraries with a wrong cell.
+# The trials over libraries with a wrong cell, and with a wrong first shared code.
 WRONG_CELL = Path(__file__).resolve().parent / "wrong_cell.c"
+WRONG_JOIN = Path(__file__).resolve().parent / "wrong_join.c"
+WRONG_CALLS = ("probe_cell", "sazamkhri_cell", "probe_join", "sazamkhri_listing")
 WRONG_TARGET = ROOT / "target" / "trials-wrong"
 
 # The last line of a run without a difference.
@@ -39,6 +43,32 @@ def build(target=TARGET, libraries=LIBRARIES, **environment):
     own = {**os.environ, **places, **environment}
     done = subprocess.run(command, cwd=ROOT / "tests", env=own, capture_output=True, text=True)
     return None if done.returncode == 0 else f"the trials do not build:\n{done.stderr}"
+
+
+def wrong_libraries():
+    """The proved libraries, with the calls of wrong_cell.c and wrong_join.c for their own; gives what is wrong, or
+    None."""
+    folder = WRONG_TARGET / "lib"
+    folder.mkdir(parents=True, exist_ok=True)
+    compile_it = ["cc", "-std=c99", "-O1", "-Wall", "-Wextra", "-Werror", "-c"]
+    made = {source: folder / f"{source.stem}.o" for source in (WRONG_CELL, WRONG_JOIN)}
+    commands = [[*compile_it, source, "-o", object_file] for source, object_file in made.items()]
+    renamed = [f"--redefine-sym={call}=proved_{call}" for call in WRONG_CALLS]
+    for library in ("libprobe.a", "libhost.a"):
+        commands.append(["objcopy", *renamed, LIBRARIES / library, folder / library])
+    commands.append(["ar", "r", folder / "libprobe.a", *made.values()])
+    for command in commands:
+        done = subprocess.run(command, capture_output=True, text=True)
+        if done.returncode:
+            return f"{command[0]} fails:\n{done.stderr}"
+    return None
+
+
+@functools.cache
+def build_wrong():
+    """Builds the trials over the wrong calls, once; gives what is wrong, or None."""
+    # What ends at the first difference need not be fast: most of the time would go into building it.
+    return wrong_libraries() or build(WRONG_TARGET, WRONG_TARGET / "lib", CARGO_PROFILE_RELEASE_OPT_LEVEL="0")
 
 
 def trials(*words, target=TARGET, **environment):
@@ -132,6 +162,18 @@ class WrongPrograms(Trials):
     def test_another_text(self):
         self.fails(self.wrapper("other", "real | tr 1 2"), "the program printed another text")
 
+    def test_lines_without_the_first_shared_code(self):
+        four_numbers = r"real | sed -E 's/^(pair=[0-9]+ [0-9]+ [0-9]+ [0-9]+) [0-9]+$/\1/'"
+        output = self.fails(self.wrapper("four numbers", four_numbers), "the program printed another text")
+        self.assertIn("case 'Three'", output)
+        self.assertIn(r"pair=0 1 4 5\n", output)
+
+    def test_room_for_51_entries(self):
+        lines = ("sheet=$(cat; echo .)", "k=${sheet%%$'\\n'*}", "k=${k#k=}",
+                 '[[ "$k" =~ ^(5[2-9]|6[0-4])$ ]] && { echo "refused=6 0"; exit; }', 'printf %s "${sheet%.}" | real')
+        output = self.fails(self.wrapper("51 entries", *lines), "the program printed another text")
+        self.assertIn("case 'Three, k=52'", output)
+
     def test_all_faults_are_told(self):
         output = self.fails(self.wrapper("worst", "echo oh >&2", "exit 5"), "the program printed nothing")
         self.assertIn("wrote to standard error", output)
@@ -147,7 +189,37 @@ class WrongPrograms(Trials):
         self.assertIn("case 'Three'", output)
 
 
-class WrongCells(unittest.TestCase):
+class WrongCalls(unittest.TestCase):
+    """What the tests of wrong calls need: the trials over them."""
+
+    @classmethod
+    def setUpClass(cls):
+        wrong = build_wrong()
+        if wrong:
+            raise AssertionError(wrong)
+
+    def notices(self, kind, call, mistake, words):
+        """The trials of this kind must fail in a case by name if this call makes this mistake, with these words."""
+        status, output, errors = trials(kind, "n=0", target=WRONG_TARGET, MISTAKE=mistake, WRONG_CALL=call)
+        self.assertEqual(status, 1, output + errors)
+        self.assertRegex(output, r"\Atrials: FAILED\n(?:\w+, )?case '")
+        self.assertIn(words, output)
+        self.assertTrue(output.endswith(f"To see it again: make trials KIND={kind} SEED=1 N=0\n"), output)
+
+    def passes(self, kind, cases):
+        """Calls without a mistake pass."""
+        status, output, errors = trials(kind, f"n={cases}", target=WRONG_TARGET)
+        self.assertEqual((status, errors), (0, ""), output)
+        self.assertEqual(counts(output), (cases, cases))
+
+    def all_are_tried(self, source, first, *mistakes):
+        """The mistakes that the source makes, from this line of it on, are those that are tried."""
+        text = source.read_text(encoding="utf-8")
+        there = re.findall(r'"([^"]+)"', text[text.index(first):])
+        self.assertEqual(sorted(set(there)), sorted({name for some in mistakes for name in some}))
+
+
+class WrongCells(WrongCalls):
     """A call for a cell that is wrong in one way is found, and it is said what is wrong: each of the two calls."""
 
     # Each mistake of wrong_cell.c that both calls can make, and where the call for tests is seen to differ. Where its
@@ -180,7 +252,12 @@ class WrongCells(unittest.TestCase):
         "the value is left as it was when blank": "value[0]",
         "the value is left as it was when refused": "value[0]",
         "the value is -0 when blank": "value[0]",
-        "the list is changed": "list[3]",
+        "an entry has four words": "answer[0]",
+        "the length is counted in entries of four words": "answer[0]",
+        "a fifth word of 0 is refused": "answer[0]",
+        "a fifth word that is no code is refused": "answer[0]",
+        "the union is read from the fifth word": "value[0]",
+        "the list is changed": "list[4]",
         "a word in front of the list is changed": "list: a word outside of the lent table",
         "a word behind the value is changed": "value: a word outside of the lent table",
     }
@@ -198,58 +275,67 @@ class WrongCells(unittest.TestCase):
     }
     IN_HOST = {"the number is told alone": "expected 1000017, got 17"}
 
-    @classmethod
-    def setUpClass(cls):
-        # What ends at the first difference need not be fast: most of the time would go into building it.
-        wrong = cls.libraries() or build(WRONG_TARGET, WRONG_TARGET / "lib", CARGO_PROFILE_RELEASE_OPT_LEVEL="0")
-        if wrong:
-            raise AssertionError(wrong)
-
-    @staticmethod
-    def libraries():
-        """The proved libraries, with the calls of wrong_cell.c for their own; gives what is wrong, or None."""
-        folder = WRONG_TARGET / "lib"
-        folder.mkdir(parents=True, exist_ok=True)
-        made = folder / "wrong_cell.o"
-        commands = [["cc", "-std=c99", "-O1", "-Wall", "-Wextra", "-Werror", "-c", WRONG_CELL, "-o", made]]
-        renamed = [f"--redefine-sym={call}=proved_{call}" for call in ("probe_cell", "sazamkhri_cell")]
-        for library in ("libprobe.a", "libhost.a"):
-            commands.append(["objcopy", *renamed, LIBRARIES / library, folder / library])
-        commands.append(["ar", "r", folder / "libprobe.a", made])
-        for command in commands:
-            done = subprocess.run(command, capture_output=True, text=True)
-            if done.returncode:
-                return f"{command[0]} fails:\n{done.stderr}"
-        return None
-
-    def notices(self, call, mistake, words):
-        """The trials must fail if this call makes this mistake, with these words."""
-        status, output, errors = trials("cell", "n=0", target=WRONG_TARGET, MISTAKE=mistake, WRONG_CALL=call)
-        self.assertEqual(status, 1, output + errors)
-        self.assertTrue(output.startswith("trials: FAILED\ncase '"), output)
-        self.assertIn(words, output)
-        self.assertTrue(output.endswith("To see it again: make trials KIND=cell SEED=1 N=0\n"), output)
-
     def test_calls_without_a_mistake_pass(self):
-        status, output, errors = trials("cell", "n=2000", target=WRONG_TARGET)
-        self.assertEqual((status, errors), (0, ""), output)
-        self.assertEqual(counts(output), (2000, 2000))
+        self.passes("cell", 2000)
 
     def test_mistakes_of_the_call_for_tests(self):
         for mistake, where in {**self.IN_BOTH, **self.IN_PROBE}.items():
             with self.subTest(mistake):
-                self.notices("probe", mistake, f"\ncell: {where}")
+                self.notices("cell", "probe", mistake, f"\ncell: {where}")
 
     def test_mistakes_of_the_host_call(self):
         for mistake, where in {**self.IN_BOTH, **self.IN_HOST}.items():
             with self.subTest(mistake):
                 where = "expected " if where.startswith("answer") else where
-                self.notices("host", mistake, f"\nhost cell: {where}")
+                self.notices("cell", "host", mistake, f"\nhost cell: {where}")
 
     def test_every_mistake_is_tried(self):
-        text = WRONG_CELL.read_text(encoding="utf-8")
-        there = re.findall(r'"([^"]+)"', text[text.index("static int makes"):])
-        self.assertEqual(sorted(set(there)), sorted({**self.IN_BOTH, **self.IN_PROBE, **self.IN_HOST}))
+        self.all_are_tried(WRONG_CELL, "static int makes", self.IN_BOTH, self.IN_PROBE, self.IN_HOST)
+
+
+class WrongJoins(WrongCalls):
+    """A join whose fifth words are wrong in one way, or a listing of it, is found, and it is said what is wrong."""
+
+    # Each mistake of wrong_join.c, the case by name that notices it, and what is seen to differ.
+    IN_JOIN = {
+        "the last shared code": ("P1", "list[4] of 320: expected 2, got 4"),
+        "the first code of the lower context": ("P1", "list[4] of 320: expected 2, got 1"),
+        "the first code of the higher context": ("P5", "list[4] of 320: expected 2, got 1"),
+        "the smallest code of the two": ("P1", "list[4] of 320: expected 2, got 1"),
+        "the code counts from 1": ("P1", "list[4] of 320: expected 2, got 3"),
+        "the code has 8 bits": ("code 4095", "list[4] of 320: expected 4095, got 255"),
+        "the fifth word is 0": ("P1", "list[4] of 320: expected 2, got 0"),
+        "the fifth word is left as it was": ("P1", "list[4] of 320: expected 2, got "),
+        "shared stands twice": ("P1", "list[4] of 320: expected 2, got 3"),
+        "the fifth word does not move with its entry": ("P6", "list[9] of 320: expected 1, got 0"),
+        "the ranking looks at the code": ("P6", "list[0] of 320: expected 0, got 1"),
+        "words behind the last whole entry are left as they were": ("k 1 with a list of 5k + 1 words", "list[5] of 6"),
+        "a list of 4k words is enough": ("P5 with a list one word short", "answer[0] of 4: expected 6, got 0"),
+        "a list that lacks a word is enough": ("P5 with a list one word short", "answer[0] of 4: expected 6, got 0"),
+        "a list that just fits is refused": ("k 64", "answer[0] of 4: expected 0, got 6"),
+    }
+    IN_LISTING = {
+        "the code is not printed": ("Three", "host: expected the value 42, got 40"),
+        "256 words are lent for the list": ("Three, k=52", "host: expected the value 74, got 1000006"),
+    }
+
+    def test_calls_without_a_mistake_pass(self):
+        for kind in ("join", "host"):
+            with self.subTest(kind):
+                self.passes(kind, 200)
+
+    def test_mistakes_of_the_join(self):
+        for mistake, (case, words) in self.IN_JOIN.items():
+            with self.subTest(mistake):
+                self.notices("join", "join", mistake, f"\njoin, case '{case}'\n{words}")
+
+    def test_mistakes_of_the_listing(self):
+        for mistake, (case, words) in self.IN_LISTING.items():
+            with self.subTest(mistake):
+                self.notices("host", "listing", mistake, f"\ncase '{case}'\n{words}")
+
+    def test_every_mistake_is_tried(self):
+        self.all_are_tried(WRONG_JOIN, "static int lists", self.IN_JOIN, self.IN_LISTING)
 
 
 class Again(Trials):

@@ -9,6 +9,9 @@
 #include <stdlib.h>
 #include <string.h>
 
+/* The words of an entry. */
+enum { ENTRY_WORDS = 5 };
+
 static const char *mistake = "";
 static int probe_is_wrong, host_is_wrong;
 
@@ -46,13 +49,17 @@ static struct told no(uint64_t number, uint64_t place) {
     return told;
 }
 
+static size_t width(const struct call *call) {
+    return ENTRY_WORDS - makes(call, "an entry has four words");
+}
+
 static int above(const struct call *call, uint16_t number) {
     return number >= call->contexts + makes(call, "a number that equals the contexts passes");
 }
 
 static size_t counted(const struct call *call) {
     if (makes(call, "the words of the entries are counted in 64 bits")) {
-        return call->entries * 4 / 4;
+        return call->entries * ENTRY_WORDS / ENTRY_WORDS;
     }
     if (makes(call, "the count has 32 bits")) {
         return (uint32_t)call->entries;
@@ -61,8 +68,9 @@ static size_t counted(const struct call *call) {
 }
 
 static int too_many(const struct call *call) {
-    size_t odd_words = call->list_len % 4;
-    size_t held = call->list_len / 4 + (odd_words && makes(call, "the length is rounded up to whole entries"));
+    size_t words = width(call) - makes(call, "the length is counted in entries of four words");
+    size_t odd_words = call->list_len % words;
+    size_t held = call->list_len / words + (odd_words && makes(call, "the length is rounded up to whole entries"));
     return counted(call) > held;
 }
 
@@ -75,6 +83,11 @@ static int bad_contexts(const struct call *call, const uint16_t *entry) {
     }
     return entry[0] >= entry[1]
         || entry[1] >= call->contexts + makes(call, "a higher context that equals the contexts passes");
+}
+
+static int bad_code(const struct call *call, const uint16_t *entry) {
+    return (entry[4] == 0 && makes(call, "a fifth word of 0 is refused"))
+        || (entry[4] > 4095 && makes(call, "a fifth word that is no code is refused"));
 }
 
 static int bad_counts(const struct call *call, const uint16_t *entry) {
@@ -98,14 +111,14 @@ static int names(const struct call *call, const uint16_t *entry) {
 static size_t bad_entry(const struct call *call) {
     size_t end = counted(call);
     if (makes(call, "entries behind the counted ones are judged")) {
-        end = call->list_len / 4;
+        end = call->list_len / width(call);
     }
     if (makes(call, "the last entry is not judged") && end > 0) {
         end -= 1;
     }
     for (size_t i = 0; i < end; i++) {
-        const uint16_t *entry = call->list + 4 * i;
-        if (bad_contexts(call, entry) || bad_counts(call, entry)) {
+        const uint16_t *entry = call->list + width(call) * i;
+        if (bad_contexts(call, entry) || bad_counts(call, entry) || bad_code(call, entry)) {
             return i;
         }
         if (names(call, entry) && makes(call, "entries behind the one found are not judged")) {
@@ -118,7 +131,7 @@ static size_t bad_entry(const struct call *call) {
 static const uint16_t *found(const struct call *call) {
     const uint16_t *last = NULL;
     for (size_t i = 0; i < counted(call); i++) {
-        const uint16_t *entry = call->list + 4 * i;
+        const uint16_t *entry = call->list + width(call) * i;
         if (names(call, entry)) {
             last = entry;
             if (!makes(call, "the later of two entries counts")) {
@@ -130,7 +143,7 @@ static const uint16_t *found(const struct call *call) {
 }
 
 static double quotient(const struct call *call, const uint16_t *entry) {
-    double shared = entry[2], either = entry[3];
+    double shared = entry[2], either = entry[3 + makes(call, "the union is read from the fifth word")];
     if (makes(call, "the quotient is upside down")) {
         return either / shared;
     }
@@ -167,7 +180,7 @@ static struct told told_of(const struct call *call) {
         return told;
     }
     if (too_many(call)) {
-        return no(17, makes(call, "the count is told at the place that it has") ? call->list_len / 4 : 0);
+        return no(17, makes(call, "the count is told at the place that it has") ? call->list_len / width(call) : 0);
     }
     if (call->first == call->second && makes(call, "entries are not judged for a context against itself")) {
         return told;

@@ -2,8 +2,8 @@
 //! outcome in full, written down by hand, so that the brute-force paper is itself under trial here.
 
 use crate::heat::{self, Asked, Bits, Cell, Told};
-use crate::paper::{self, refuse, After, Answer, Rooms};
-use crate::random::tables;
+use crate::paper::{self, refuse, After, Answer, EntryWords, Rooms};
+use crate::random::{tables, Contexts};
 use crate::sheet;
 
 /// A join by name. After an acceptance the list and the trail hold exactly these words, and zeros behind.
@@ -37,7 +37,7 @@ impl JoinCase {
     }
 }
 
-const AMPLE: Rooms = Rooms { list: 256, work: 10_240, trail: 4_096 };
+const AMPLE: Rooms = Rooms { list: 320, work: 10_240, trail: 4_096 };
 
 fn case(
     name: &str,
@@ -68,19 +68,23 @@ fn site(name: &str, k: u16, contexts: &[&[u16]], answer: Answer, list: &[u16], t
 }
 
 const THREE: &[&[u16]] = &[&[2, 3, 4, 5], &[1, 2, 3, 4, 5], &[1, 2, 3, 4]];
+/// The list of the sheet Three with k=1: one entry, of three contexts.
+const ONE_PAIR: &[u16] = &[0, 1, 4, 5, 2];
+/// Its list with k=3.
+const THREE_PAIRS: &[u16] = &[0, 1, 4, 5, 2, 1, 2, 4, 5, 1, 0, 2, 3, 5, 2];
 
 /// P1 to P12.
 fn examples() -> Vec<JoinCase> {
     vec![
-        site("P1", 1, &[&[1, 2, 3, 4], &[2, 3, 4, 5]], [0, 1, 4, 1], &[0, 1, 3, 5], &[0, 1]),
+        site("P1", 1, &[&[1, 2, 3, 4], &[2, 3, 4, 5]], [0, 1, 4, 1], &[0, 1, 3, 5, 2], &[0, 1]),
         site("P2, two empty contexts", 1, &[&[], &[]], [0, 0, 0, 0], &[], &[]),
         site("P2, {} and {7}", 1, &[&[], &[7]], [0, 0, 1, 0], &[], &[]),
-        site("P3", 1, &[&[7], &[7]], [0, 1, 2, 1], &[0, 1, 1, 1], &[0, 1]),
-        site("P4", 1, &[&[1, 2], &[2, 3]], [0, 1, 4, 1], &[0, 1, 1, 3], &[0, 1]),
-        site("P5", 1, THREE, [0, 1, 4, 2], &[0, 1, 4, 5], &[1, 2, 0, 1]),
-        site("P6", 2, THREE, [0, 2, 4, 2], &[0, 1, 4, 5, 1, 2, 4, 5], &[1, 2, 0, 1]),
-        site("P7", 3, THREE, [0, 3, 7, 3], &[0, 1, 4, 5, 1, 2, 4, 5, 0, 2, 3, 5], &[1, 2, 0, 1, 0, 2]),
-        site("P8", 4, THREE, [0, 3, 13, 3], &[0, 1, 4, 5, 1, 2, 4, 5, 0, 2, 3, 5], &[1, 2, 0, 1, 0, 2]),
+        site("P3", 1, &[&[7], &[7]], [0, 1, 2, 1], &[0, 1, 1, 1, 7], &[0, 1]),
+        site("P4", 1, &[&[1, 2], &[2, 3]], [0, 1, 4, 1], &[0, 1, 1, 3, 2], &[0, 1]),
+        site("P5", 1, THREE, [0, 1, 4, 2], &[0, 1, 4, 5, 2], &[1, 2, 0, 1]),
+        site("P6", 2, THREE, [0, 2, 4, 2], &[0, 1, 4, 5, 2, 1, 2, 4, 5, 1], &[1, 2, 0, 1]),
+        site("P7", 3, THREE, [0, 3, 7, 3], THREE_PAIRS, &[1, 2, 0, 1, 0, 2]),
+        site("P8", 4, THREE, [0, 3, 13, 3], THREE_PAIRS, &[1, 2, 0, 1, 0, 2]),
         site("P9", 1, &[], [0, 0, 0, 0], &[], &[]),
         case("P10", 1, &[0, 2], &[5, 5], AMPLE, [5, 1, 0, 0], &[], &[]),
         case("P11", 1, &[0, 1, 2], &[9, 3], AMPLE, [0, 0, 2, 0], &[], &[]),
@@ -92,46 +96,69 @@ fn examples() -> Vec<JoinCase> {
 fn limits() -> Vec<JoinCase> {
     let three: Vec<Vec<u16>> = THREE.iter().map(|context| context.to_vec()).collect();
     let (offsets, codes) = tables(&three);
-    let found = [0, 1, 4, 5, 1, 2, 4, 5, 0, 2, 3, 5];
     let trail = [1, 2, 0, 1, 0, 2];
     let rooms = |list, work, trail| Rooms { list, work, trail };
-    let p5 = |name: &str, rooms| case(name, 1, &offsets, &codes, rooms, [0, 1, 4, 2], &[0, 1, 4, 5], &[1, 2, 0, 1]);
+    let p5 = |name: &str, rooms| case(name, 1, &offsets, &codes, rooms, [0, 1, 4, 2], ONE_PAIR, &[1, 2, 0, 1]);
     let p5_refused = |name: &str, rooms, number| case(name, 1, &offsets, &codes, rooms, [number, 0, 0, 0], &[], &[]);
     let all: Vec<u16> = (0..4096).collect();
     let one_more: Vec<u16> = (0..4097).map(|i| i % 4096).collect();
     vec![
-        case("k 64", 64, &offsets, &codes, AMPLE, [0, 3, 13, 3], &found, &trail),
-        case("k 65", 65, &offsets, &codes, rooms(260, 10_240, 4_096), [1, 0, 0, 0], &[], &[]),
-        site("code 4095", 1, &[&[4095], &[4095]], [0, 1, 2, 1], &[0, 1, 1, 1], &[0, 1]),
+        case("k 64", 64, &offsets, &codes, AMPLE, [0, 3, 13, 3], THREE_PAIRS, &trail),
+        case("k 65", 65, &offsets, &codes, rooms(325, 10_240, 4_096), [1, 0, 0, 0], &[], &[]),
+        site("code 4095", 1, &[&[4095], &[4095]], [0, 1, 2, 1], &[0, 1, 1, 1, 4095], &[0, 1]),
         site("code 4096", 1, &[&[4095], &[4096]], [4, 1, 0, 0], &[], &[]),
         case("256 contexts", 1, &[0; 257], &[], AMPLE, [0, 0, 0, 0], &[], &[]),
         case("257 contexts", 1, &[0; 258], &[], AMPLE, [2, 0, 0, 0], &[], &[]),
         case("4096 codes", 1, &[0, 4096], &all, AMPLE, [0, 0, 4096, 0], &[], &[]),
         case("4097 codes", 1, &[0, 4096, 4097], &one_more, AMPLE, [2, 0, 0, 0], &[], &[]),
-        p5_refused("P5 with trail room for one pair", rooms(4, 10_240, 2), 8),
-        p5_refused("P5 with trail room for one pair and an odd word", rooms(4, 10_240, 3), 8),
-        p5("P5 with trail room for two pairs", rooms(4, 10_240, 4)),
-        p5("P5 with an odd word behind two pairs", rooms(4, 10_240, 5)),
-        p5_refused("P5 with no trail room", rooms(4, 10_240, 0), 8),
-        p5_refused("P5 with a list one word short", rooms(3, 10_240, 4), 6),
-        p5_refused("P5 with a work area one word short", rooms(4, 10_239, 4), 7),
-        p5_refused("P5 with all three rooms short", rooms(3, 10_239, 2), 6),
-        p5_refused("P5 with work area and trail short", rooms(4, 10_239, 2), 7),
+        p5_refused("P5 with trail room for one pair", rooms(5, 10_240, 2), 8),
+        p5_refused("P5 with trail room for one pair and an odd word", rooms(5, 10_240, 3), 8),
+        p5("P5 with trail room for two pairs", rooms(5, 10_240, 4)),
+        p5("P5 with an odd word behind two pairs", rooms(5, 10_240, 5)),
+        p5_refused("P5 with no trail room", rooms(5, 10_240, 0), 8),
+        p5_refused("P5 with a list one word short", rooms(4, 10_240, 4), 6),
+        p5_refused("P5 with no list", rooms(0, 10_240, 4), 6),
+        p5_refused("P5 with a work area one word short", rooms(5, 10_239, 4), 7),
+        p5_refused("P5 with all three rooms short", rooms(4, 10_239, 2), 6),
+        p5_refused("P5 with work area and trail short", rooms(5, 10_239, 2), 7),
         p5("P5 with long buffers", rooms(1_000, 20_000, 70_001)),
         // No pair is met, so that no trail room is enough.
-        case("P11 with no trail room", 1, &[0, 1, 2], &[9, 3], rooms(4, 10_240, 0), [0, 0, 2, 0], &[], &[]),
+        case("P11 with no trail room", 1, &[0, 1, 2], &[9, 3], rooms(5, 10_240, 0), [0, 0, 2, 0], &[], &[]),
         // The list must hold the k asked for, not the pairs found.
         case(
             "k 3 with no pair and list room for two",
             3,
             &[0, 1, 2],
             &[9, 3],
-            rooms(11, 10_240, 0),
+            rooms(14, 10_240, 0),
             [6, 0, 0, 0],
             &[],
             &[],
         ),
     ]
+}
+
+/// Three with every k, in a list that just fits, a word more, and a word less; and in one of 4k words, which was enough
+/// before an entry had a fifth. The numbers are the request's own.
+fn lists_about_the_limit() -> Vec<JoinCase> {
+    let about = |k: u16| {
+        let words = usize::from(k);
+        let lengths = [("4k", 4 * words), ("5k - 1", 5 * words - 1), ("5k", 5 * words), ("5k + 1", 5 * words + 1)];
+        lengths.map(|(name, length)| three_in_list(&format!("k {k} with a list of {name} words"), k, length))
+    };
+    (1..=64).flat_map(about).collect()
+}
+
+/// Three with this k, in a list of so many words: P5 to P8, or 6.
+fn three_in_list(name: &str, k: u16, length: usize) -> JoinCase {
+    let (answer, list, trail): (Answer, &[u16], &[u16]) = match k {
+        _ if length < 5 * usize::from(k) => ([6, 0, 0, 0], &[], &[]),
+        1 => ([0, 1, 4, 2], ONE_PAIR, &[1, 2, 0, 1]),
+        2 => ([0, 2, 4, 2], &THREE_PAIRS[..10], &[1, 2, 0, 1]),
+        3 => ([0, 3, 7, 3], THREE_PAIRS, &[1, 2, 0, 1, 0, 2]),
+        _ => ([0, 3, 13, 3], THREE_PAIRS, &[1, 2, 0, 1, 0, 2]),
+    };
+    JoinCase { rooms: Rooms { list: length, ..AMPLE }, ..site(name, k, THREE, answer, list, trail) }
 }
 
 /// Offsets and codes that are refused, by the decisions on places.
@@ -164,19 +191,26 @@ fn slips() -> Vec<JoinCase> {
     let close: &[&[u16]] = &[&hundred, &ninety_nine, &hundred_and_one, &its_hundred];
     vec![
         // Cut-off 100/101: one event of each of 0, 1 and 3, and two of context 2.
-        site("99/100 against 100/101, k=1", 1, close, [0, 1, 5, 1], &[2, 3, 100, 101], &[2, 3]),
+        site("99/100 against 100/101, k=1", 1, close, [0, 1, 5, 1], &[2, 3, 100, 101, 201], &[2, 3]),
         // Cut-off 99/100: two events of each of 0, 2 and 3, and one of context 1.
-        site("99/100 against 100/101, k=2", 2, close, [0, 2, 7, 2], &[2, 3, 100, 101, 0, 1, 99, 100], &[2, 3, 0, 1]),
+        site(
+            "99/100 against 100/101, k=2",
+            2,
+            close,
+            [0, 2, 7, 2],
+            &[2, 3, 100, 101, 201, 0, 1, 99, 100, 1],
+            &[2, 3, 0, 1],
+        ),
         // Three equal pairs and one place on the list: stopping at an equal ceiling would lose nothing here, but met
         // counts all three.
-        site("three equal contexts, k=1", 1, &[&[7], &[7], &[7]], [0, 1, 3, 3], &[0, 1, 1, 1], &[0, 1, 0, 2, 1, 2]),
+        site("three equal contexts, k=1", 1, &[&[7], &[7], &[7]], [0, 1, 3, 3], &[0, 1, 1, 1, 7], &[0, 1, 0, 2, 1, 2]),
         // Both pairs are equal. The list takes the smaller lower context first, the trail the pair that is met first.
         site(
             "a tie goes by the lower context",
             1,
             &[&[1], &[2], &[2], &[1]],
             [0, 1, 4, 2],
-            &[0, 3, 1, 1],
+            &[0, 3, 1, 1, 1],
             &[1, 2, 0, 3],
         ),
         site(
@@ -184,7 +218,7 @@ fn slips() -> Vec<JoinCase> {
             2,
             &[&[1], &[1], &[1]],
             [0, 2, 3, 3],
-            &[0, 1, 1, 1, 0, 2, 1, 1],
+            &[0, 1, 1, 1, 1, 0, 2, 1, 1, 1],
             &[0, 1, 0, 2, 1, 2],
         ),
         site(
@@ -192,16 +226,96 @@ fn slips() -> Vec<JoinCase> {
             2,
             &[&[1, 2, 3, 4], &[1, 2, 3, 4]],
             [0, 1, 8, 1],
-            &[0, 1, 4, 4],
+            &[0, 1, 4, 4, 1],
             &[0, 1],
         ),
         site("k=64 and nothing shared", 64, &[&[1], &[2], &[3], &[]], [0, 0, 3, 0], &[], &[]),
     ]
 }
 
+/// The first shared code of two contexts, wherever it stands in them. They meet once and are listed, at k=1.
+fn first_codes() -> Vec<JoinCase> {
+    let two = |name: &str, one: &[u16], other: &[u16], events, entry: EntryWords| {
+        site(name, 1, &[one, other], [0, 1, events, 1], &entry, &[0, 1])
+    };
+    let all_but_0: Vec<u16> = (1..4096).collect();
+    vec![
+        two("equal contexts", &[3, 8, 9], &[3, 8, 9], 2, [0, 1, 3, 3, 3]),
+        two("the first code of one is the last of the other", &[5, 6, 7], &[1, 2, 5], 6, [0, 1, 1, 5, 5]),
+        two("the last code of one is the first of the other", &[1, 2, 5], &[5, 6, 7], 6, [0, 1, 1, 5, 5]),
+        two("first shared code 0", &[0, 4], &[0, 9], 4, [0, 1, 1, 3, 0]),
+        two("first shared code 0, and others behind it", &[0, 1, 2], &[0, 1, 2], 2, [0, 1, 3, 3, 0]),
+        two("first shared code 0, and no other code", &[0], &[0], 2, [0, 1, 1, 1, 0]),
+        two("code 0 in the lower context alone", &[0, 4], &[4], 3, [0, 1, 1, 2, 4]),
+        two("code 0 in the higher context alone", &[4], &[0, 4], 3, [0, 1, 1, 2, 4]),
+        two("first shared code 4095", &[0, 4094, 4095], &[1, 4095], 5, [0, 1, 1, 4, 4095]),
+        two("first shared code 4094, and 4095 behind it", &[4094, 4095], &[4094, 4095], 2, [0, 1, 2, 2, 4094]),
+        two("first shared code 4095, behind 4094 others", &all_but_0, &[4095], 4096, [0, 1, 1, 4095, 4095]),
+        two("first shared code 255, then 256", &[255, 256], &[254, 255, 256], 3, [0, 1, 2, 3, 255]),
+        two("first shared code 256", &[255, 256], &[256, 257], 4, [0, 1, 1, 3, 256]),
+        two("shared behind smaller ones", &[1, 3, 10, 20, 30], &[2, 4, 5, 10, 20, 30], 8, [0, 1, 3, 8, 10]),
+        two("shared with another between", &[2, 7, 9], &[1, 7, 8, 9], 5, [0, 1, 2, 5, 7]),
+        two("a code more in front of the lower context", &[1, 2, 3, 4, 5], &[2, 3, 4, 5], 3, [0, 1, 4, 5, 2]),
+    ]
+}
+
+/// Entries of equal similarity: the list goes by context numbers, whatever their first shared codes are.
+fn equal_but_for_codes() -> Vec<JoinCase> {
+    let apart: &[&[u16]] = &[&[9], &[9], &[1], &[1]];
+    // 0 and 2 meet first, at 5; then 0 and 1, at 9, and go before them.
+    let fork: &[&[u16]] = &[&[5, 9], &[7, 9], &[5, 8]];
+    vec![
+        site("falling first codes, k=2", 2, apart, [0, 2, 4, 2], &[0, 1, 1, 1, 9, 2, 3, 1, 1, 1], &[0, 1, 2, 3]),
+        site("falling first codes, k=1", 1, apart, [0, 1, 4, 2], &[0, 1, 1, 1, 9], &[0, 1, 2, 3]),
+        site("the later of two goes in front", 2, fork, [0, 2, 6, 2], &[0, 1, 1, 3, 9, 0, 2, 1, 3, 5], &[0, 2, 0, 1]),
+        site("the later of two takes the place", 1, fork, [0, 1, 6, 2], &[0, 1, 1, 3, 9], &[0, 2, 0, 1]),
+    ]
+}
+
+/// Entries that move while the list is made: the first shared code goes with its pair. Two contexts of a pair have a
+/// code of their own each and then 1, 2 or 3 codes in common, from 10, 20 or 30 on. They meet in the order of their
+/// numbers, all at a ceiling of 3/4.
+fn moved_entries() -> Vec<JoinCase> {
+    let (poor, other_poor): (&[u16], &[u16]) = (&[1, 10, 11, 12], &[2, 10, 13, 14]);
+    let (fair, other_fair): (&[u16], &[u16]) = (&[3, 20, 21, 22], &[4, 20, 21, 23]);
+    let (good, other_good): (&[u16], &[u16]) = (&[5, 30, 31, 32], &[6, 30, 31, 32]);
+    let rising: &[&[u16]] = &[poor, other_poor, fair, other_fair, good, other_good];
+    let mixed: &[&[u16]] = &[good, other_good, poor, other_poor, fair, other_fair];
+    let rising_list = [4, 5, 3, 5, 30, 2, 3, 2, 6, 20, 0, 1, 1, 7, 10];
+    let mixed_list = [0, 1, 3, 5, 30, 4, 5, 2, 6, 20, 2, 3, 1, 7, 10];
+    let trail = [0, 1, 2, 3, 4, 5];
+    vec![
+        site("each goes in front", 3, rising, [0, 3, 24, 3], &rising_list, &trail),
+        site("each goes in front, and the first falls off", 2, rising, [0, 2, 18, 3], &rising_list[..10], &trail),
+        site("each takes the one place", 1, rising, [0, 1, 12, 3], &rising_list[..5], &trail),
+        site("the last goes between", 3, mixed, [0, 3, 24, 3], &mixed_list, &trail),
+        site("the last goes between, and the second falls off", 2, mixed, [0, 2, 18, 3], &mixed_list[..10], &trail),
+        site("the first keeps the one place", 1, mixed, [0, 1, 12, 3], &mixed_list[..5], &trail),
+        sixty_five_pairs(),
+    ]
+}
+
+/// 65 pairs, of which 64 are asked for. Pair i, counted from 0, is the i-th to meet, and more alike than all before it,
+/// 1 of 66 - i: so it goes in front, all others move, and the last of the 65 makes the first fall off. Each pair has
+/// codes of its own.
+fn sixty_five_pairs() -> JoinCase {
+    let first_code = |i: u16| (0..i).map(|j| 66 - j).sum::<u16>();
+    let pair = |i: u16| [vec![first_code(i)], (first_code(i)..first_code(i + 1)).collect()];
+    let contexts: Contexts = (0..65).flat_map(pair).collect();
+    let entry = |i: u16| [2 * i, 2 * i + 1, 1, 66 - i, first_code(i)];
+    let list: Vec<u16> = (1..65).rev().flat_map(entry).collect();
+    let trail: Vec<u16> = (0..130).collect();
+    let (offsets, codes) = tables(&contexts);
+    // Cut-off 1/65: all events but the last one of the context with 66 codes.
+    let answer = [0, 64, codes.len() as u64 - 1, 65];
+    case("65 pairs, each goes in front", 64, &offsets, &codes, AMPLE, answer, &list, &trail)
+}
+
 /// All joins by name.
 pub fn joins() -> Vec<JoinCase> {
-    [examples(), limits(), refused_tables(), slips()].into_iter().flatten().collect()
+    let as_before = [examples(), limits(), refused_tables(), slips()];
+    let of_codes = [lists_about_the_limit(), first_codes(), equal_but_for_codes(), moved_entries()];
+    as_before.into_iter().chain(of_codes).flatten().collect()
 }
 
 /// A sheet by name, with the lengths of the lent tables, and the reader's answer.
@@ -408,13 +522,20 @@ pub fn listings() -> Vec<ListingCase> {
         cases.push(ListingCase { name: name.to_string(), sheet: sheet.to_vec(), printed: printed.to_string() });
     };
     let three = |k: u16| format!("k={k}\ncontexts=3\nc=2 3 4 5\nc=1 2 3 4 5\nc=1 2 3 4\n").into_bytes();
-    case("Three", &three(1), "k=1\nfound=1\nevents=4\nmet=2\npair=0 1 4 5\n");
-    case("Three, k=2", &three(2), "k=2\nfound=2\nevents=4\nmet=2\npair=0 1 4 5\npair=1 2 4 5\n");
-    case("Three, k=3", &three(3), "k=3\nfound=3\nevents=7\nmet=3\npair=0 1 4 5\npair=1 2 4 5\npair=0 2 3 5\n");
-    case("Three, k=4", &three(4), "k=4\nfound=3\nevents=13\nmet=3\npair=0 1 4 5\npair=1 2 4 5\npair=0 2 3 5\n");
+    let all_three = "pair=0 1 4 5 2\npair=1 2 4 5 1\npair=0 2 3 5 2\n";
+    case("Three", &three(1), "k=1\nfound=1\nevents=4\nmet=2\npair=0 1 4 5 2\n");
+    case("Three, k=2", &three(2), "k=2\nfound=2\nevents=4\nmet=2\npair=0 1 4 5 2\npair=1 2 4 5 1\n");
+    case("Three, k=3", &three(3), &format!("k=3\nfound=3\nevents=7\nmet=3\n{all_three}"));
+    case("Three, k=4", &three(4), &format!("k=4\nfound=3\nevents=13\nmet=3\n{all_three}"));
     case("Three, k=0", &three(0), "refused=1 0\n");
-    case("Three, k=64", &three(64), "k=64\nfound=3\nevents=13\nmet=3\npair=0 1 4 5\npair=1 2 4 5\npair=0 2 3 5\n");
+    // 256 words of list would hold 51 entries.
+    case("Three, k=51", &three(51), &format!("k=51\nfound=3\nevents=13\nmet=3\n{all_three}"));
+    case("Three, k=52", &three(52), &format!("k=52\nfound=3\nevents=13\nmet=3\n{all_three}"));
+    case("Three, k=64", &three(64), &format!("k=64\nfound=3\nevents=13\nmet=3\n{all_three}"));
     case("Three, k=65", &three(65), "refused=1 0\n");
+    case("first shared code 0", b"k=1\ncontexts=2\nc=0\nc=0\n", "k=1\nfound=1\nevents=2\nmet=1\npair=0 1 1 1 0\n");
+    let late = b"k=1\ncontexts=2\nc=0 4095\nc=1 4095\n";
+    case("first shared code 4095", late, "k=1\nfound=1\nevents=4\nmet=1\npair=0 1 1 3 4095\n");
     case("no contexts", b"k=1\ncontexts=0\n", "k=1\nfound=0\nevents=0\nmet=0\n");
     case("P11", b"k=1\ncontexts=2\nc=9\nc=3\n", "k=1\nfound=0\nevents=2\nmet=0\n");
     case("P10", b"k=1\ncontexts=1\nc=5 5\n", "refused=5 1\n");
@@ -430,13 +551,27 @@ pub fn listings() -> Vec<ListingCase> {
     case("a sheet of 24,576 bytes", &sheet_of_length(24_576), "refused=4 529\n");
     case("a sheet of 24,577 bytes", &sheet_of_length(24_577), "refused=11 24576\n");
     let longest = longest_accepted();
-    case("N30 21,264 bytes", &longest, "k=64\nfound=1\nevents=4096\nmet=1\npair=0 1 1000 3096\n");
+    case("N30 21,264 bytes", &longest, "k=64\nfound=1\nevents=4096\nmet=1\npair=0 1 1000 3096 1000\n");
     // 2016 pairs, and 28 + 3 + 1 make 2048: all meet at the first event.
-    let pairs: String = (1..64).map(|i| format!("pair=0 {i} 1 1\n")).chain(["pair=1 2 1 1\n".to_string()]).collect();
+    let of_0: String = (1..64).map(|i| format!("pair=0 {i} 1 1 0\n")).collect();
+    let pairs = format!("{of_0}pair=1 2 1 1 0\n");
     case("2048 pairs met", &groups(64, &[64, 8, 3, 2]), &format!("k=64\nfound=64\nevents=77\nmet=2048\n{pairs}"));
     case("2049 pairs met", &groups(64, &[64, 8, 3, 2, 2]), "refused=8 0\n");
     case("2080 pairs met", &groups(1, &[65]), "refused=8 0\n");
+    let (sheet, lines) = long_lines();
+    case("64 long lines", &sheet, &format!("k=64\nfound=64\nevents=12\nmet=66\n{lines}"));
     cases
+}
+
+/// A sheet whose listing has long lines, and 64 of these lines: the last 12 of 256 contexts have the same hundred
+/// codes, those of the greatest numbers.
+fn long_lines() -> (Vec<u8>, String) {
+    let codes: Vec<String> = (3996..4096).map(|code: u16| code.to_string()).collect();
+    let line = format!("c={}\n", codes.join(" "));
+    let sheet = format!("k=64\ncontexts=256\n{}{}", "c=\n".repeat(244), line.repeat(12));
+    let pairs = (244..256).flat_map(|lower| (lower + 1..256).map(move |higher| (lower, higher)));
+    let lines = pairs.take(64).map(|(lower, higher)| format!("pair={lower} {higher} 100 100 3996\n"));
+    (sheet.into_bytes(), lines.collect())
 }
 
 /// A cell of the heat map by name: what is asked, the words of the list buffer, and what is to be told.
@@ -476,15 +611,10 @@ fn cell(name: &str, contexts: u16, list: &[u16], entries: usize, cell: (u16, u16
     CellCase { name: name.to_string(), asked, list: list.to_vec(), told }
 }
 
-/// The list of the sheet Three with k=1: one entry, of three contexts.
-const ONE_PAIR: &[u16] = &[0, 1, 4, 5];
-/// Its list with k=3.
-const THREE_PAIRS: &[u16] = &[0, 1, 4, 5, 1, 2, 4, 5, 0, 2, 3, 5];
-
 fn cells_of_three() -> Vec<CellCase> {
     let four_of_five = bits(0x3fe9_9999_9999_999a);
     let three_of_five = bits(0x3fe3_3333_3333_3333);
-    let zeros_behind = [ONE_PAIR, &[0; 8]].concat();
+    let zeros_behind = [ONE_PAIR, &[0; 10]].concat();
     vec![
         cell("Three, 0 and 1", 3, ONE_PAIR, 1, (0, 1), four_of_five),
         cell("Three, 1 and 0", 3, ONE_PAIR, 1, (1, 0), four_of_five),
@@ -508,16 +638,16 @@ fn cells_of_three() -> Vec<CellCase> {
 /// The ten pairs of the practice cemetery, which has eleven contexts.
 fn cells_of_the_cemetery() -> Vec<CellCase> {
     let pairs = [
-        [6, 9, 4, 6],
-        [2, 3, 9, 14],
-        [0, 1, 9, 15],
-        [3, 4, 6, 10],
-        [2, 4, 6, 13],
-        [1, 10, 5, 11],
-        [2, 8, 7, 16],
-        [0, 7, 6, 14],
-        [0, 10, 5, 13],
-        [1, 7, 4, 14],
+        [6, 9, 4, 6, 103],
+        [2, 3, 9, 14, 102],
+        [0, 1, 9, 15, 101],
+        [3, 4, 6, 10, 107],
+        [2, 4, 6, 13, 107],
+        [1, 10, 5, 11, 101],
+        [2, 8, 7, 16, 102],
+        [0, 7, 6, 14, 101],
+        [0, 10, 5, 13, 101],
+        [1, 7, 4, 14, 101],
     ];
     let cell = |name: &str, contexts, told| cell(name, 11, &pairs.concat(), 10, contexts, told);
     vec![
@@ -535,7 +665,7 @@ fn cells_of_the_cemetery() -> Vec<CellCase> {
 }
 
 fn similarities() -> Vec<CellCase> {
-    let cell = |name: &str, shared, union, told| cell(name, 2, &[0, 1, shared, union], 1, (0, 1), told);
+    let cell = |name: &str, shared, union, told| cell(name, 2, &[0, 1, shared, union, 2], 1, (0, 1), told);
     vec![
         cell("1 of 1", 1, 1, bits(0x3ff0_0000_0000_0000)),
         cell("65535 of 65535", 65_535, 65_535, bits(0x3ff0_0000_0000_0000)),
@@ -554,7 +684,7 @@ fn similarities() -> Vec<CellCase> {
 /// Refusal 13, and the greatest numbers that are none.
 fn context_numbers() -> Vec<CellCase> {
     let four_of_five = bits(0x3fe9_9999_9999_999a);
-    let far = [65_533, 65_534, 4, 5];
+    let far = [65_533, 65_534, 4, 5, 2];
     vec![
         cell("no contexts", 0, &[], 0, (0, 0), no(13, 0)),
         cell("no contexts, and a bad list", 0, ONE_PAIR, 2, (0, 0), no(13, 0)),
@@ -568,59 +698,109 @@ fn context_numbers() -> Vec<CellCase> {
         cell("both numbers are far too great", 3, ONE_PAIR, 1, (65_535, 40_000), no(13, 0)),
         cell("a first number too great before a count too great", 3, ONE_PAIR, 2, (3, 0), no(13, 0)),
         cell("a second number too great before a count too great", 3, ONE_PAIR, 2, (0, 3), no(13, 1)),
-        cell("a second number too great before a bad entry", 3, &[1, 1, 4, 5], 1, (0, 3), no(13, 1)),
+        cell("a second number too great before a bad entry", 3, &[1, 1, 4, 5, 2], 1, (0, 3), no(13, 1)),
         cell("65535 contexts, the last two", 65_535, &far, 1, (65_534, 65_533), four_of_five),
         cell("65535 contexts, a first number of 65535", 65_535, &far, 1, (65_535, 0), no(13, 0)),
         cell("65535 contexts, a second number of 65535", 65_535, &far, 1, (0, 65_535), no(13, 1)),
         // More contexts than a sheet may have are none too many for a list.
-        cell("300 contexts", 300, &[0, 299, 4, 5], 1, (299, 0), four_of_five),
+        cell("300 contexts", 300, &[0, 299, 4, 5, 2], 1, (299, 0), four_of_five),
     ]
 }
 
 /// Refusal 17 for the count of entries.
 fn counts_of_entries() -> Vec<CellCase> {
     let four_of_five = bits(0x3fe9_9999_9999_999a);
-    let odd = [THREE_PAIRS, &[0, 1, 2]].concat();
+    let odd = [THREE_PAIRS, &[0, 1, 2, 3]].concat();
     let of_pair = |name: &str, entries| cell(name, 3, ONE_PAIR, entries, (0, 1), no(17, 0));
     vec![
         cell("as many entries as the buffer holds", 3, THREE_PAIRS, 3, (0, 1), four_of_five),
         cell("one entry more than the buffer holds", 3, THREE_PAIRS, 4, (0, 1), no(17, 0)),
-        cell("three words behind three entries", 3, &odd, 3, (0, 1), four_of_five),
-        cell("three words behind three entries are no fourth", 3, &odd, 4, (0, 1), no(17, 0)),
-        cell("a buffer of three words, none counted", 3, &ONE_PAIR[..3], 0, (0, 1), BLANK),
-        cell("a buffer of three words, one counted", 3, &ONE_PAIR[..3], 1, (0, 1), no(17, 0)),
+        cell("four words behind three entries", 3, &odd, 3, (0, 1), four_of_five),
+        cell("four words behind three entries are no fourth", 3, &odd, 4, (0, 1), no(17, 0)),
+        cell("a word behind three entries", 3, &odd[..16], 3, (0, 1), four_of_five),
+        cell("a word behind three entries is no fourth", 3, &odd[..16], 4, (0, 1), no(17, 0)),
+        cell("the third entry lacks a word", 3, &THREE_PAIRS[..14], 3, (0, 1), no(17, 0)),
+        cell("the third entry lacks a word, two counted", 3, &THREE_PAIRS[..14], 2, (0, 1), four_of_five),
+        cell("a buffer of four words, none counted", 3, &ONE_PAIR[..4], 0, (0, 1), BLANK),
+        cell("a buffer of four words, one counted", 3, &ONE_PAIR[..4], 1, (0, 1), no(17, 0)),
         cell("no buffer, none counted", 3, &[], 0, (0, 1), BLANK),
         cell("no buffer, one counted", 3, &[], 1, (0, 1), no(17, 0)),
         cell("no buffer, a context against itself, one counted", 3, &[], 1, (2, 2), no(17, 0)),
         of_pair("the greatest count", usize::MAX),
-        of_pair("a count whose words are 0 in 64 bits", 1 << 62),
-        of_pair("a count whose words are 4 in 64 bits", (1 << 62) + 1),
-        of_pair("a count whose words are 4 in 64 bits, by far", (3 << 62) + 1),
+        of_pair("the greatest count whose words 64 bits can tell", 3_689_348_814_741_910_323),
+        of_pair("a count whose words are 4 in 64 bits", 3_689_348_814_741_910_324),
+        of_pair("a count whose words are 3 in 64 bits", 7_378_697_629_483_820_647),
+        of_pair("a count whose words are 2 in 64 bits", 11_068_046_444_225_730_970),
+        of_pair("a count whose words are 1 in 64 bits", 14_757_395_258_967_641_293),
+        cell("a count whose words are 9 in 64 bits", 3, THREE_PAIRS, 3_689_348_814_741_910_325, (0, 1), no(17, 0)),
+        cell("a count whose words are 14 in 64 bits", 3, THREE_PAIRS, 3_689_348_814_741_910_326, (0, 1), no(17, 0)),
+        of_pair("a count that is 0 if it is taken four times in 64 bits", 1 << 62),
+        of_pair("a count that is 4 if it is taken four times in 64 bits", (1 << 62) + 1),
         of_pair("a count that is 1 in 32 bits", (1 << 32) + 1),
         of_pair("a count that is 1 in 16 bits", (1 << 16) + 1),
-        cell("a count too great before a bad entry", 3, &[0, 1, 4, 5, 2, 1, 4, 5], 3, (0, 1), no(17, 0)),
+        cell("a count too great before a bad entry", 3, &[0, 1, 4, 5, 2, 2, 1, 4, 5, 1], 3, (0, 1), no(17, 0)),
     ]
+}
+
+/// A buffer holds a fifth of its words, rounded down: of 5n - 1, 5n and 5n + 1 words, for some n, and of lengths that
+/// would hold more if an entry had four words.
+fn lengths_of_lists() -> Vec<CellCase> {
+    let four_of_five = bits(0x3fe9_9999_9999_999a);
+    let about = |(length, held): (usize, usize)| {
+        let list: Vec<u16> = ONE_PAIR.iter().copied().cycle().take(length).collect();
+        let told = if held == 0 { BLANK } else { four_of_five };
+        [
+            cell(&format!("{length} words, {held} counted"), 3, &list, held, (1, 0), told),
+            cell(&format!("{length} words, one more than {held} counted"), 3, &list, held + 1, (1, 0), no(17, 0)),
+        ]
+    };
+    let whole = [1, 2, 3, 51, 52, 64].into_iter().flat_map(|n| [(5 * n - 1, n - 1), (5 * n, n), (5 * n + 1, n)]);
+    let by_four = [(8, 1), (12, 2), (16, 3), (20, 4), (24, 4)];
+    whole.chain(by_four).flat_map(about).collect()
+}
+
+/// The fifth word has no say: whatever stands there, an entry is as sound, and its cell the same.
+fn fifth_words() -> Vec<CellCase> {
+    let four_of_five = bits(0x3fe9_9999_9999_999a);
+    let about = |fifth: u16| {
+        let cell = |name: &str, entry: [u16; 4], contexts, told| {
+            let list = [&entry[..], &[fifth], &[1, 2, 1, 1, fifth]].concat();
+            cell(&format!("a fifth word of {fifth}, {name}"), 3, &list, 2, contexts, told)
+        };
+        [
+            cell("a value", [0, 1, 4, 5], (0, 1), four_of_five),
+            cell("a value, the other way", [0, 1, 4, 5], (1, 0), four_of_five),
+            cell("the entry behind it", [0, 1, 4, 5], (2, 1), bits(0x3ff0_0000_0000_0000)),
+            cell("not listed", [0, 1, 4, 5], (0, 2), BLANK),
+            cell("a context against itself", [0, 1, 4, 5], (1, 1), BLANK),
+            cell("an entry of one context", [1, 1, 4, 5], (0, 1), no(17, 0)),
+            cell("a higher context that equals the contexts", [1, 3, 4, 5], (0, 1), no(17, 0)),
+            cell("nothing shared", [0, 1, 0, 5], (0, 1), no(17, 0)),
+            cell("shared above the union", [0, 1, 6, 5], (0, 1), no(17, 0)),
+        ]
+    };
+    [0, 1, 2, 3, 5, 4095, 4096, 65_535].into_iter().flat_map(about).collect()
 }
 
 /// Refusal 17 for one entry alone, and entries that are just right.
 fn single_entries() -> Vec<CellCase> {
-    let cell = |name: &str, entry: [u16; 4], told| cell(name, 3, &entry, 1, (1, 2), told);
+    let cell = |name: &str, entry: EntryWords, told| cell(name, 3, &entry, 1, (1, 2), told);
     vec![
-        cell("an entry of one context", [1, 1, 4, 5], no(17, 0)),
-        cell("an entry whose contexts fall", [2, 1, 4, 5], no(17, 0)),
-        cell("a higher context one below the contexts", [1, 2, 4, 5], bits(0x3fe9_9999_9999_999a)),
-        cell("a higher context that equals the contexts", [1, 3, 4, 5], no(17, 0)),
-        cell("a higher context far too great", [1, 65_535, 4, 5], no(17, 0)),
-        cell("both contexts too great, and rising", [3, 4, 4, 5], no(17, 0)),
-        cell("a lower context too great", [3, 2, 4, 5], no(17, 0)),
-        cell("nothing shared", [1, 2, 0, 5], no(17, 0)),
-        cell("nothing shared, nothing there", [1, 2, 0, 0], no(17, 0)),
-        cell("shared equals the union", [1, 2, 5, 5], bits(0x3ff0_0000_0000_0000)),
-        cell("shared one above the union", [1, 2, 6, 5], no(17, 0)),
-        cell("shared above a union of 0", [1, 2, 1, 0], no(17, 0)),
-        cell("shared far above the union", [1, 2, 65_535, 1], no(17, 0)),
-        cell("an entry of zeros", [0; 4], no(17, 0)),
-        cell("an entry of the greatest words", [65_535; 4], no(17, 0)),
+        cell("an entry of one context", [1, 1, 4, 5, 2], no(17, 0)),
+        cell("an entry whose contexts fall", [2, 1, 4, 5, 2], no(17, 0)),
+        cell("a higher context one below the contexts", [1, 2, 4, 5, 2], bits(0x3fe9_9999_9999_999a)),
+        cell("a higher context that equals the contexts", [1, 3, 4, 5, 2], no(17, 0)),
+        cell("a higher context far too great", [1, 65_535, 4, 5, 2], no(17, 0)),
+        cell("both contexts too great, and rising", [3, 4, 4, 5, 2], no(17, 0)),
+        cell("a lower context too great", [3, 2, 4, 5, 2], no(17, 0)),
+        cell("nothing shared", [1, 2, 0, 5, 2], no(17, 0)),
+        cell("nothing shared, nothing there", [1, 2, 0, 0, 2], no(17, 0)),
+        cell("shared equals the union", [1, 2, 5, 5, 2], bits(0x3ff0_0000_0000_0000)),
+        cell("shared one above the union", [1, 2, 6, 5, 2], no(17, 0)),
+        cell("shared above a union of 0", [1, 2, 1, 0, 2], no(17, 0)),
+        cell("shared far above the union", [1, 2, 65_535, 1, 2], no(17, 0)),
+        cell("an entry of zeros", [0; 5], no(17, 0)),
+        cell("an entry of the greatest words", [65_535; 5], no(17, 0)),
     ]
 }
 
@@ -628,29 +808,32 @@ fn single_entries() -> Vec<CellCase> {
 fn several_entries() -> Vec<CellCase> {
     let four_of_five = bits(0x3fe9_9999_9999_999a);
     let third = bits(0x3fd5_5555_5555_5555);
-    let good = [0, 1, 4, 5];
-    let list = |entries: &[[u16; 4]]| entries.concat();
-    let many = |last: [u16; 4]| [good.repeat(70_000), last.to_vec()].concat();
+    let good = [0, 1, 4, 5, 2];
+    let many = |last: EntryWords| [vec![good; 70_000], vec![last]].concat();
+    let cell = |name: &str, entries: &[EntryWords], count, contexts, told| {
+        cell(name, 3, &entries.concat(), count, contexts, told)
+    };
     vec![
-        cell("bad before the one looked for", 3, &list(&[[1, 2, 0, 5], good]), 2, (0, 1), no(17, 0)),
-        cell("bad behind the one looked for", 3, &list(&[good, [1, 2, 0, 5]]), 2, (0, 1), no(17, 1)),
-        cell("bad behind the one looked for, falling", 3, &list(&[good, [2, 0, 4, 5]]), 2, (1, 0), no(17, 1)),
-        cell("bad behind the count", 3, &list(&[good, [1, 2, 0, 5]]), 1, (0, 1), four_of_five),
-        cell("a context against itself, bad behind", 3, &list(&[good, [1, 2, 6, 5]]), 2, (0, 0), no(17, 1)),
-        cell("a context against itself, bad behind the count", 3, &list(&[good, [1, 2, 6, 5]]), 1, (0, 0), BLANK),
-        cell("a context against itself, and an entry of it", 3, &list(&[good, [2, 2, 4, 5]]), 2, (2, 2), no(17, 1)),
-        cell("not listed, bad behind", 3, &list(&[good, good, [1, 3, 4, 5]]), 3, (0, 2), no(17, 2)),
-        cell("two bad ones, the earlier counts", 3, &list(&[good, [1, 1, 4, 5], [0; 4]]), 3, (0, 1), no(17, 1)),
-        cell("two bad ones, by another cause first", 3, &list(&[[1, 2, 6, 5], [2, 1, 4, 5]]), 2, (0, 1), no(17, 0)),
-        cell("one pair twice", 3, &list(&[good, [0, 1, 1, 3]]), 2, (0, 1), four_of_five),
-        cell("one pair twice, asked the other way", 3, &list(&[good, [0, 1, 1, 3]]), 2, (1, 0), four_of_five),
-        cell("one pair twice, the smaller one first", 3, &list(&[[0, 1, 1, 3], good]), 2, (0, 1), third),
-        cell("one pair twice, behind another", 3, &list(&[[1, 2, 1, 1], good, [0, 1, 1, 3]]), 3, (0, 1), four_of_five),
-        cell("one pair twice, the later one bad", 3, &list(&[good, [0, 1, 6, 5]]), 2, (0, 1), no(17, 1)),
+        cell("bad before the one looked for", &[[1, 2, 0, 5, 1], good], 2, (0, 1), no(17, 0)),
+        cell("bad behind the one looked for", &[good, [1, 2, 0, 5, 1]], 2, (0, 1), no(17, 1)),
+        cell("bad behind the one looked for, falling", &[good, [2, 0, 4, 5, 1]], 2, (1, 0), no(17, 1)),
+        cell("bad behind the count", &[good, [1, 2, 0, 5, 1]], 1, (0, 1), four_of_five),
+        cell("a context against itself, bad behind", &[good, [1, 2, 6, 5, 1]], 2, (0, 0), no(17, 1)),
+        cell("a context against itself, bad behind the count", &[good, [1, 2, 6, 5, 1]], 1, (0, 0), BLANK),
+        cell("a context against itself, and an entry of it", &[good, [2, 2, 4, 5, 1]], 2, (2, 2), no(17, 1)),
+        cell("not listed, bad behind", &[good, good, [1, 3, 4, 5, 1]], 3, (0, 2), no(17, 2)),
+        cell("two bad ones, the earlier counts", &[good, [1, 1, 4, 5, 1], [0; 5]], 3, (0, 1), no(17, 1)),
+        cell("two bad ones, by another cause first", &[[1, 2, 6, 5, 1], [2, 1, 4, 5, 1]], 2, (0, 1), no(17, 0)),
+        cell("one pair twice", &[good, [0, 1, 1, 3, 1]], 2, (0, 1), four_of_five),
+        cell("one pair twice, asked the other way", &[good, [0, 1, 1, 3, 1]], 2, (1, 0), four_of_five),
+        cell("one pair twice, the smaller one first", &[[0, 1, 1, 3, 1], good], 2, (0, 1), third),
+        cell("one pair twice, behind another", &[[1, 2, 1, 1, 1], good, [0, 1, 1, 3, 1]], 3, (0, 1), four_of_five),
+        cell("one pair twice, alike but for the fifth word", &[good, [0, 1, 4, 5, 1]], 2, (0, 1), four_of_five),
+        cell("one pair twice, the later one bad", &[good, [0, 1, 6, 5, 1]], 2, (0, 1), no(17, 1)),
         // Numbers of entries that are small in two bytes.
-        cell("the pair behind 70,000 others", 3, &many([1, 2, 4, 5]), 70_001, (1, 2), four_of_five),
-        cell("a bad entry behind 70,000 others", 3, &many([1, 2, 0, 5]), 70_001, (0, 1), no(17, 70_000)),
-        cell("a bad entry behind 70,000 that are counted", 3, &many([1, 2, 0, 5]), 70_000, (0, 1), four_of_five),
+        cell("the pair behind 70,000 others", &many([1, 2, 4, 5, 1]), 70_001, (1, 2), four_of_five),
+        cell("a bad entry behind 70,000 others", &many([1, 2, 0, 5, 1]), 70_001, (0, 1), no(17, 70_000)),
+        cell("a bad entry behind 70,000 that are counted", &many([1, 2, 0, 5, 1]), 70_000, (0, 1), four_of_five),
     ]
 }
 
@@ -658,7 +841,8 @@ fn several_entries() -> Vec<CellCase> {
 pub fn cells() -> Vec<CellCase> {
     let lists = [cells_of_three(), cells_of_the_cemetery(), similarities()];
     let refused = [context_numbers(), counts_of_entries(), single_entries(), several_entries()];
-    lists.into_iter().chain(refused).flatten().collect()
+    let of_words = [lengths_of_lists(), fifth_words()];
+    lists.into_iter().chain(refused).chain(of_words).flatten().collect()
 }
 
 #[cfg(test)]
@@ -668,8 +852,8 @@ mod tests {
     /// A list that has lost its cases would agree with everything.
     #[test]
     fn there_are_cases_by_name() {
-        assert!(joins().len() >= 51 && readings().len() >= 76 && listings().len() >= 25);
-        assert!(cells().len() >= 103);
+        assert!(joins().len() >= 335 && readings().len() >= 76 && listings().len() >= 30);
+        assert!(cells().len() >= 232);
     }
 
     #[test]

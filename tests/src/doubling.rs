@@ -1,6 +1,8 @@
 //! The user's law: give every type a second code, and the ratios do not move. Each code c becomes 2c and 2c + 1, so
-//! that every context has twice as many types, and every pair shares twice as many.
+//! that every context has twice as many types, and every pair shares twice as many. The first code that a pair shares
+//! is then 2c: the smaller of the two that its first shared code c has become.
 
+use crate::paper::EntryWords;
 use crate::random::{self, Contexts, Random};
 
 /// What a site may have so that it can be doubled within the limits of the join.
@@ -10,6 +12,12 @@ const GREATEST_CODE: u16 = 2_047;
 /// The site with a second code for every type.
 pub fn doubled(site: &[Vec<u16>]) -> Contexts {
     site.iter().map(|context| context.iter().flat_map(|&code| [2 * code, 2 * code + 1]).collect()).collect()
+}
+
+/// An entry of the list of the doubled site, from that of the site itself: the same contexts, twice as many shared and
+/// in the union, and the first of the two codes that the first shared code has become.
+pub fn doubled_entry([lower, higher, shared, union, first_code]: EntryWords) -> EntryWords {
+    [lower, higher, 2 * shared, 2 * union, 2 * first_code]
 }
 
 /// All types of a site, rising.
@@ -79,7 +87,7 @@ pub fn events_doubled(events: u64, sizes: &[usize], cut_off: Option<(usize, usiz
 #[cfg(test)]
 mod tests {
     use super::*;
-    use crate::paper::{self, Survey};
+    use crate::paper::{self, entry_words, Survey};
     use crate::random::{large_site, small_site, KINDS};
     use crate::random::{slices, tables, LARGE_KINDS};
 
@@ -131,12 +139,20 @@ mod tests {
         assert_eq!(events_doubled(13, &[4, 5, 4], None), 26);
     }
 
-    fn found(pairs: &[paper::Pair]) -> Vec<(usize, usize, usize, usize)> {
-        pairs.iter().map(|pair| (pair.lower, pair.higher, pair.shared, pair.union)).collect()
+    /// Contexts 0 and 1 of that sheet share 2, 3, 4 and 5 of 5 types; doubled, the first of them is 4.
+    #[test]
+    fn an_entry_of_the_first_example_is_doubled_by_hand() {
+        assert_eq!(doubled_entry([0, 1, 4, 5, 2]), [0, 1, 8, 10, 4]);
+        assert_eq!(doubled_entry([0, 255, 1, 4095, 2047]), [0, 255, 2, 8190, 4094]);
+        assert_eq!(doubled_entry([3, 4, 1, 1, 0]), [3, 4, 2, 2, 0]);
     }
 
-    fn twice(pairs: &[paper::Pair]) -> Vec<(usize, usize, usize, usize)> {
-        found(pairs).into_iter().map(|(lower, higher, shared, union)| (lower, higher, 2 * shared, 2 * union)).collect()
+    fn found(pairs: &[paper::Pair]) -> Vec<EntryWords> {
+        pairs.iter().map(entry_words).collect()
+    }
+
+    fn twice(pairs: &[paper::Pair]) -> Vec<EntryWords> {
+        found(pairs).into_iter().map(doubled_entry).collect()
     }
 
     /// The paper itself keeps the law, for every k up to one more than the pairs there are.

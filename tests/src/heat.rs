@@ -4,7 +4,7 @@
 
 use std::fmt::{self, Debug, Formatter};
 
-use crate::paper::{refuse, Refusal};
+use crate::paper::{refuse, Refusal, ENTRY_WORDS};
 
 /// The bits of an f64. As bits, 0 and -0 differ, and what is no number is the same as itself.
 #[derive(Clone, Copy, PartialEq, Eq)]
@@ -49,13 +49,14 @@ pub fn similarity(shared: u16, union: u16) -> Bits {
     Bits(((1023 + 52 - scale as u64) << 52) + (rounded - (1 << 52)))
 }
 
-/// An entry of a list.
+/// An entry of a list. The map does not look at its fifth word.
 #[derive(Clone, Copy, Debug)]
 pub struct Entry {
     pub lower: u16,
     pub higher: u16,
     pub shared: u16,
     pub union: u16,
+    pub fifth: u16,
 }
 
 /// Why an entry is one that no list has.
@@ -93,8 +94,11 @@ impl Entry {
 
 /// All whole entries of a buffer.
 fn entries(list: &[u16]) -> Vec<Entry> {
-    let entry = |words: &[u16]| Entry { lower: words[0], higher: words[1], shared: words[2], union: words[3] };
-    list.chunks_exact(4).map(entry).collect()
+    let entry = |words: &[u16]| match *words {
+        [lower, higher, shared, union, fifth] => Entry { lower, higher, shared, union, fifth },
+        _ => panic!("an entry has five words"),
+    };
+    list.chunks_exact(ENTRY_WORDS).map(entry).collect()
 }
 
 /// What is wrong with a call. The order of these is the order in which they count.
@@ -257,14 +261,32 @@ mod tests {
     #[test]
     fn faults_count_in_their_order() {
         let asked = |contexts, entries, first, second| Asked { contexts, entries, first, second };
-        let bad = [0, 1, 4, 5, 1, 1, 0, 0, 2, 1, 7, 5];
+        let bad = [0, 1, 4, 5, 0, 1, 1, 0, 0, 0, 2, 1, 7, 5, 0];
         let no = |number, place| Err(refuse(number, place));
         assert_eq!(cell(asked(3, 9, 3, 3), &bad), no(13, 0));
         assert_eq!(cell(asked(3, 9, 0, 3), &bad), no(13, 1));
         assert_eq!(cell(asked(3, 4, 0, 1), &bad), no(17, 0));
         assert_eq!(cell(asked(3, 3, 0, 1), &bad), no(17, 1));
-        assert_eq!(cell(asked(3, 3, 0, 1), &bad[4..]), no(17, 0));
+        assert_eq!(cell(asked(3, 3, 0, 1), &bad[5..]), no(17, 0));
         assert_eq!(cell(asked(3, 1, 0, 1), &bad), Ok(Cell::Value(similarity(4, 5))));
         assert_eq!(cell(asked(3, 0, 0, 1), &bad), Ok(Cell::Blank));
+    }
+
+    #[test]
+    fn the_fifth_word_is_not_looked_at() {
+        let asked = Asked { contexts: 2, entries: 1, first: 1, second: 0 };
+        for fifth in 0..=65_535 {
+            assert_eq!(cell(asked, &[0, 1, 4, 5, fifth]), Ok(Cell::Value(similarity(4, 5))), "{fifth}");
+            assert_eq!(cell(asked, &[0, 1, 6, 5, fifth]), Err(refuse(17, 0)), "{fifth}");
+        }
+    }
+
+    #[test]
+    fn five_words_are_an_entry() {
+        let list = [0, 1, 4, 5, 2].repeat(9);
+        for (length, held) in [(0, 0), (4, 0), (5, 1), (6, 1), (9, 1), (10, 2), (11, 2), (40, 8), (44, 8), (45, 9)] {
+            let told = |entries| cell(Asked { contexts: 2, entries, first: 1, second: 1 }, &list[..length]);
+            assert_eq!((told(held), told(held + 1)), (Ok(Cell::Blank), Err(refuse(17, 0))), "{length} words");
+        }
     }
 }

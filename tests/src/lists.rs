@@ -2,6 +2,7 @@
 //! that it does not mind.
 
 use crate::heat::Asked;
+use crate::paper::{EntryWords, ENTRY_WORDS};
 use crate::random::Random;
 
 /// A call for a cell: what is asked, and the words of the list buffer.
@@ -58,13 +59,24 @@ fn some_counts(random: &mut Random) -> (u16, u16) {
     (shared as u16, union as u16)
 }
 
+/// A word for the fifth place of an entry, where nobody looks: a code, or what is none.
+fn some_fifth(random: &mut Random) -> u16 {
+    match random.below(6) {
+        0 => 0,
+        1 => 65_535,
+        2 => *random.pick(&[1, 4095, 4096]),
+        3 => random.next() as u16,
+        _ => random.below(4096) as u16,
+    }
+}
+
 /// An entry that a list of so many contexts may have, if there are two of them at least.
-fn sound_entry(random: &mut Random, contexts: u16) -> [u16; 4] {
+fn sound_entry(random: &mut Random, contexts: u16) -> EntryWords {
     let one = some_number(random, contexts);
     let other = some_number(random, contexts);
     let other = if other == one { (one + 1) % contexts } else { other };
     let (shared, union) = some_counts(random);
-    [one.min(other), one.max(other), shared, union]
+    [one.min(other), one.max(other), shared, union, some_fifth(random)]
 }
 
 /// How many entries: few for the most part, and now and then more than two bytes can count.
@@ -81,7 +93,7 @@ fn some_length(random: &mut Random) -> usize {
 }
 
 /// The entries of a sound list. In some the same few contexts come again and again.
-fn sound_list(random: &mut Random, contexts: u16) -> Vec<[u16; 4]> {
+fn sound_list(random: &mut Random, contexts: u16) -> Vec<EntryWords> {
     let most = if random.once_in(4) { contexts.min(3) } else { contexts };
     (0..some_length(random)).map(|_| sound_entry(random, most)).collect()
 }
@@ -96,7 +108,7 @@ fn some_index(random: &mut Random, length: usize) -> usize {
 }
 
 /// The ways to damage an entry. Some damaged entries are still sound: the paper decides, not the damage.
-fn damage_entry(random: &mut Random, contexts: u16, entry: &mut [u16; 4]) {
+fn damage_entry(random: &mut Random, contexts: u16, entry: &mut EntryWords) {
     match random.below(12) {
         0 => entry[1] = entry[0],
         1 => entry[0] = entry[1],
@@ -110,13 +122,13 @@ fn damage_entry(random: &mut Random, contexts: u16, entry: &mut [u16; 4]) {
         }
         8 => entry[2] = random.between(usize::from(entry[3]), 65_535) as u16,
         9 => entry[3] = 0,
-        10 => *entry = [0; 4],
-        _ => entry[random.below(4)] = random.next() as u16,
+        10 => *entry = [0; ENTRY_WORDS],
+        _ => entry[random.below(ENTRY_WORDS)] = random.next() as u16,
     }
 }
 
 /// One entry damaged, or the contexts of one written over those of another, which keeps its counts.
-fn damage_list(random: &mut Random, contexts: u16, entries: &mut [[u16; 4]]) {
+fn damage_list(random: &mut Random, contexts: u16, entries: &mut [EntryWords]) {
     if entries.is_empty() {
         return;
     }
@@ -129,6 +141,9 @@ fn damage_list(random: &mut Random, contexts: u16, entries: &mut [[u16; 4]]) {
     }
 }
 
+/// The least count of entries whose words cannot be counted in 64 bits. There they seem to be 4.
+const LEAST_UNCOUNTED: usize = usize::MAX / ENTRY_WORDS + 1;
+
 /// A count of entries for a buffer that holds so many: right for the most part, too small, or too great by little or
 /// so much that the words of the entries cannot be counted in 64 bits, or that the count is right in its last bits.
 fn some_count(random: &mut Random, held: usize) -> usize {
@@ -136,10 +151,10 @@ fn some_count(random: &mut Random, held: usize) -> usize {
         0 | 1 => held + 1,
         2 => held + random.between(2, 9),
         3 => {
-            let great = [1 << 16, 1 << 32, 1 << 61, 1 << 62, (1 << 62) + (1 << 61), 1 << 63];
+            let great = [1 << 16, 1 << 32, 1 << 62, 1 << 63, LEAST_UNCOUNTED, 2 * LEAST_UNCOUNTED - 1];
             random.pick(&great) + *random.pick(&[held, 0, 1])
         }
-        4 => *random.pick(&[usize::MAX, usize::MAX - 1, usize::MAX / 2, usize::MAX / 4, usize::MAX / 4 + 1]),
+        4 => *random.pick(&[usize::MAX, usize::MAX - 1, usize::MAX / 2, LEAST_UNCOUNTED - 1]),
         5..=8 => random.below(held + 1),
         _ => held,
     }
@@ -148,15 +163,15 @@ fn some_count(random: &mut Random, held: usize) -> usize {
 /// Words behind the entries: none, less than an entry, or some that look like entries or not.
 fn some_rest(random: &mut Random) -> Vec<u16> {
     let length = match random.below(6) {
-        0 => random.between(1, 3),
-        1 => random.between(4, 20),
+        0 => random.between(1, ENTRY_WORDS - 1),
+        1 => random.between(ENTRY_WORDS, 20),
         _ => 0,
     };
     random.junk_words(length)
 }
 
 /// The two context numbers: those of an entry for the most part, counted or not, in either order.
-fn some_cell(random: &mut Random, contexts: u16, entries: &[[u16; 4]]) -> (u16, u16) {
+fn some_cell(random: &mut Random, contexts: u16, entries: &[EntryWords]) -> (u16, u16) {
     let below = |random: &mut Random| if contexts == 0 { 0 } else { some_number(random, contexts) };
     match random.below(20) {
         0 => (too_great(random, contexts), below(random)),
@@ -194,15 +209,15 @@ pub fn some_question(random: &mut Random) -> Question {
         damage_list(random, contexts, &mut entries);
     }
     let list = [entries.concat(), some_rest(random)].concat();
-    let count = some_count(random, list.len() / 4);
+    let count = some_count(random, list.len() / ENTRY_WORDS);
     // Where words stand behind the entries it is mostly the entries that are counted.
     let count = if random.once_in(4) { count } else { count.min(entries.len()) };
     Question { asked: Asked { contexts, entries: count, first, second }, list }
 }
 
-/// The four words of an entry, each 0 to 2, by its number of 0 to 80.
-fn small_entry(number: u16) -> [u16; 4] {
-    [number / 27, number / 9 % 3, number / 3 % 3, number % 3]
+/// The words of an entry: the four that count, each 0 to 2, by its number of 0 to 80, and the fifth.
+fn small_entry(number: u16, fifth: u16) -> EntryWords {
+    [number / 27, number / 9 % 3, number / 3 % 3, number % 3, fifth]
 }
 
 /// All cells of two numbers below the bound.
@@ -211,23 +226,26 @@ pub fn cells_below(bound: u16) -> impl Iterator<Item = (u16, u16)> {
 }
 
 /// All calls with a list of one such entry: with up to three contexts, any count about 1, and all numbers about them.
+/// The fifth word is small, or as great as can be.
 fn questions_of_one() -> impl Iterator<Item = Question> {
     let counts = (0..=3).flat_map(|contexts| (0..=2).map(move |entries| (contexts, entries)));
     counts.flat_map(|(contexts, entries)| {
         cells_below(4).flat_map(move |(first, second)| {
             let asked = Asked { contexts, entries, first, second };
-            (0..81).map(move |number| Question { asked, list: small_entry(number).to_vec() })
+            let list = |number: u16| small_entry(number / 3, [0, 1, 65_535][usize::from(number % 3)]).to_vec();
+            (0..81 * 3).map(move |number| Question { asked, list: list(number) })
         })
     })
 }
 
-/// All calls with a list of two such entries, both counted, for the cells of two and of three contexts.
+/// All calls with a list of two such entries, both counted, for the cells of two and of three contexts. The fifth word
+/// of each is the number of the other.
 fn questions_of_two() -> impl Iterator<Item = Question> {
     [2, 3].into_iter().flat_map(|contexts| {
         cells_below(contexts).flat_map(move |(first, second)| {
             let asked = Asked { contexts, entries: 2, first, second };
-            let list = |number: u16| [small_entry(number / 81), small_entry(number % 81)].concat();
-            (0..81 * 81).map(move |number| Question { asked, list: list(number) })
+            let list = |one: u16, other: u16| [small_entry(one, other), small_entry(other, one)].concat();
+            (0..81 * 81).map(move |number| Question { asked, list: list(number / 81, number % 81) })
         })
     })
 }

@@ -12,6 +12,7 @@ mod damage;
 mod doubling;
 mod ffi;
 mod heat;
+mod join_ways;
 mod lists;
 mod paper;
 mod progress;

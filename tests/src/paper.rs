@@ -3,6 +3,12 @@
 
 use std::cmp::Ordering;
 
+/// The words of an entry of a list: lower context, higher context, shared, union, and the first shared code.
+pub const ENTRY_WORDS: usize = 5;
+
+/// An entry of a list, in words.
+pub type EntryWords = [u16; ENTRY_WORDS];
+
 /// A refusal: its number and its place.
 #[derive(Clone, Copy, Debug, PartialEq, Eq, PartialOrd, Ord)]
 pub struct Refusal {
@@ -60,6 +66,8 @@ pub struct Pair {
     pub higher: usize,
     pub shared: usize,
     pub union: usize,
+    /// The first shared code: the smallest that both contexts have.
+    pub first_code: u16,
     /// The two events at the pair's first shared code, in the order of events.
     pub earlier: Event,
     pub later: Event,
@@ -80,7 +88,8 @@ impl Pair {
         }
     }
 
-    /// Greater similarity first, then the smaller lower context, then the smaller higher one.
+    /// Greater similarity first, then the smaller lower context, then the smaller higher one. The first shared code has
+    /// no say.
     pub fn rank(&self, other: &Pair) -> Ordering {
         other
             .similarity()
@@ -137,12 +146,13 @@ pub fn contexts<'a>(offsets: &[u16], codes: &'a [u16]) -> Vec<&'a [u16]> {
 pub fn pair(contexts: &[&[u16]], lower: usize, higher: usize) -> Option<Pair> {
     let (one, other) = (contexts[lower], contexts[higher]);
     let common: Vec<u16> = one.iter().copied().filter(|code| other.contains(code)).collect();
-    let first = *common.iter().min()?;
-    let place_in = |context: &[u16]| 1 + context.iter().position(|&code| code == first).expect("it is shared");
+    let first_code = *common.iter().min()?;
+    let place_in = |context: &[u16]| 1 + context.iter().position(|&code| code == first_code).expect("it is shared");
     let mut events = [Event::new(contexts, lower, place_in(one)), Event::new(contexts, higher, place_in(other))];
     events.sort_by(Event::order);
     let shared = common.len();
-    Some(Pair { lower, higher, shared, union: one.len() + other.len() - shared, earlier: events[0], later: events[1] })
+    let union = one.len() + other.len() - shared;
+    Some(Pair { lower, higher, shared, union, first_code, earlier: events[0], later: events[1] })
 }
 
 /// What the paper says of a site: the list, the trail and the number of events.
@@ -257,9 +267,13 @@ fn word(number: usize) -> u16 {
     u16::try_from(number).expect("all counts of a site fit a table word")
 }
 
-/// The words of the list: lower, higher, shared, union for each entry.
+/// The words of the list: lower, higher, shared, union and the first shared code for each entry.
 pub fn list_words(list: &[Pair]) -> Vec<u16> {
-    list.iter().flat_map(|p| [word(p.lower), word(p.higher), word(p.shared), word(p.union)]).collect()
+    list.iter().flat_map(entry_words).collect()
+}
+
+pub fn entry_words(pair: &Pair) -> EntryWords {
+    [word(pair.lower), word(pair.higher), word(pair.shared), word(pair.union), pair.first_code]
 }
 
 /// The words of the trail: lower, higher for each pair.
@@ -272,7 +286,7 @@ pub fn join(k: u16, offsets: &[u16], codes: &[u16], rooms: Rooms) -> Joined {
     if let Err(refusal) = judge(k, offsets, codes) {
         return Joined::untouched(refusal);
     }
-    if rooms.list < 4 * usize::from(k) {
+    if rooms.list < ENTRY_WORDS * usize::from(k) {
         return Joined::untouched(refuse(6, 0));
     }
     if rooms.work < 10_240 {
@@ -311,13 +325,44 @@ mod tests {
     #[test]
     fn single_pairs_of_the_paper() {
         let p1 = both(&[1, 2, 3, 4], &[2, 3, 4, 5]).unwrap();
-        assert_eq!((fraction(p1.similarity()), fraction(p1.ceiling())), ((3, 5), (3, 4)));
+        assert_eq!((fraction(p1.similarity()), fraction(p1.ceiling()), p1.first_code), ((3, 5), (3, 4), 2));
         assert!(both(&[], &[]).is_none());
         assert!(both(&[], &[7]).is_none());
         let p3 = both(&[7], &[7]).unwrap();
-        assert_eq!((fraction(p3.similarity()), fraction(p3.ceiling())), ((1, 1), (1, 1)));
+        assert_eq!((fraction(p3.similarity()), fraction(p3.ceiling()), p3.first_code), ((1, 1), (1, 1), 7));
         let p4 = both(&[1, 2], &[2, 3]).unwrap();
-        assert_eq!((fraction(p4.similarity()), fraction(p4.ceiling())), ((1, 3), (1, 2)));
+        assert_eq!((fraction(p4.similarity()), fraction(p4.ceiling()), p4.first_code), ((1, 3), (1, 2), 2));
+    }
+
+    /// All contexts over the codes 0 to 6: both have the first shared code, and no smaller one is in both.
+    #[test]
+    fn no_code_below_the_first_shared_one_is_in_both() {
+        let subset = |bits: u16| (0..7).filter(|code| bits >> code & 1 == 1).collect::<Vec<u16>>();
+        for (one, other) in (0..128).flat_map(|one| (0..128).map(move |other| (subset(one), subset(other)))) {
+            let in_both = |code: u16| one.contains(&code) && other.contains(&code);
+            match both(&one, &other) {
+                Some(pair) => assert!(in_both(pair.first_code) && !(0..pair.first_code).any(in_both)),
+                None => assert!(!(0..7).any(in_both)),
+            }
+        }
+    }
+
+    /// Two pairs that are as alike: the list goes by their contexts, also where their first shared codes fall.
+    #[test]
+    fn the_order_of_the_list_does_not_look_at_codes() {
+        let contexts: [&[u16]; 4] = [&[9], &[9], &[1], &[1]];
+        let (one, other) = (pair(&contexts, 0, 1).unwrap(), pair(&contexts, 2, 3).unwrap());
+        assert_eq!((one.rank(&other), one.first_code, other.first_code), (Ordering::Less, 9, 1));
+        assert_eq!(list_words(&find(2, &contexts).list), [0, 1, 1, 1, 9, 2, 3, 1, 1, 1]);
+    }
+
+    /// The list must hold five words for each pair that is asked for.
+    #[test]
+    fn a_list_under_five_words_a_pair_is_refused() {
+        let number = |k: u16, list| join(k, &[0], &[], Rooms { list, work: 10_240, trail: 0 }).answer[0];
+        for (k, least) in [(1, 5), (2, 10), (51, 255), (52, 260), (64, 320)] {
+            assert_eq!([least - 1, least, least + 1].map(|list| number(k, list)), [6, 0, 0], "k={k}");
+        }
     }
 
     #[test]

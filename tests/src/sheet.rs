@@ -2,7 +2,7 @@
 //! their beginnings whether they are well-formed, finds the place of refusal 9 by that question alone, then
 //! gathers the numbers before that place, judges each, and lets the smallest place win.
 
-use crate::paper::{self, refuse, refused, After, Answer, Refusal, Rooms};
+use crate::paper::{self, refuse, refused, After, Answer, Refusal, Rooms, ENTRY_WORDS};
 
 /// A number by the form: `0`, or digits of any number that do not begin with 0.
 fn is_number(text: &[u8]) -> bool {
@@ -225,7 +225,7 @@ pub fn writing(k: u16, offsets: &[u16], codes: &[u16], room: usize) -> Writing {
 pub const SHEET_LIMIT: usize = 24_576;
 
 /// The rooms that the program and the host call lend: 64 entries, the work area, 2,048 pairs.
-pub const ROOMS: Rooms = Rooms { list: 4 * 64, work: 10_240, trail: 2 * 2_048 };
+pub const ROOMS: Rooms = Rooms { list: ENTRY_WORDS * 64, work: 10_240, trail: 2 * 2_048 };
 
 /// The listing of a sheet, or its refusal.
 pub type Listing = Result<String, Refusal>;
@@ -242,8 +242,9 @@ pub fn listing(sheet: &[u8]) -> Listing {
     }
     let mut text = format!("k={}\nfound={found}\nevents={events}\nmet={met}\n", site.k);
     let After::Holds(list) = joined.list else { panic!("an accepted join fills its list") };
-    for entry in list.chunks(4) {
-        text.push_str(&format!("pair={} {} {} {}\n", entry[0], entry[1], entry[2], entry[3]));
+    for entry in list.chunks(ENTRY_WORDS) {
+        let words: Vec<String> = entry.iter().map(u16::to_string).collect();
+        text.push_str(&format!("pair={}\n", words.join(" ")));
     }
     Ok(text)
 }
@@ -284,13 +285,18 @@ mod tests {
 
     #[test]
     fn the_sheet_of_the_paper_is_listed() {
-        assert_eq!(printed(THREE), "k=1\nfound=1\nevents=4\nmet=2\npair=0 1 4 5\n");
-        let text = "k=1\nfound=1\nevents=4\nmet=2\npair=0 1 4 5\n".as_bytes();
+        assert_eq!(printed(THREE), "k=1\nfound=1\nevents=4\nmet=2\npair=0 1 4 5 2\n");
+        let text = "k=1\nfound=1\nevents=4\nmet=2\npair=0 1 4 5 2\n".as_bytes();
         assert_eq!(host(THREE, text.len()), (text.len() as u64, text.to_vec()));
         assert_eq!(host(THREE, text.len() - 1), (1_000_012, vec![0; text.len() - 1]));
         assert_eq!(host(THREE, text.len() + 2).1, [text, &[0, 0]].concat());
         assert_eq!(host(THREE, 0), (1_000_012, vec![]));
         assert_eq!(host(b"k=65\ncontexts=0\n", 0), (1_000_001, vec![]));
+    }
+
+    #[test]
+    fn program_and_host_lend_320_words_for_64_entries() {
+        assert_eq!(ROOMS, Rooms { list: 320, work: 10_240, trail: 4_096 });
     }
 
     #[test]

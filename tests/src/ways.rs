@@ -2,6 +2,7 @@
 //! whether it has gone all of them.
 
 use crate::heat::{Asked, Bits, Call, Cause, Fault};
+use crate::paper::ENTRY_WORDS;
 
 /// The ways to an answer that random calls have to go. A bad entry counts for its cause if it has no other one, so that
 /// no cause is tried only in the shadow of another.
@@ -11,7 +12,11 @@ pub const WAYS: &[&str] = &[
     "value",
     "value, the higher context asked first",
     "value, the earlier of two entries that differ",
+    "value, the fifth word is 0",
+    "value, the fifth word is a code",
+    "value, the fifth word is no code",
     "answered, a bad entry behind the counted ones",
+    "answered, less than an entry behind all that are counted",
     "13 at 0",
     "13 at 0, both numbers too great",
     "13 at 0, and a bad list",
@@ -20,6 +25,8 @@ pub const WAYS: &[&str] = &[
     "17 for the count",
     "17 for the count, and a bad entry",
     "17 for the count, whose words are too many for 64 bits",
+    "17 for the count, a word is missing",
+    "17 for the count, though there are four words for each entry",
     "17 at 0, contexts equal",
     "17 at 0, contexts falling",
     "17 at 0, a context too great",
@@ -52,15 +59,15 @@ pub const LARGE_MAP: &str = "the whole map of a large site";
 pub fn ways(asked: Asked, list: &[u16]) -> Vec<&'static str> {
     let call = Call::new(asked, list);
     match call.faults.iter().min() {
-        None => call.ways_answered(),
+        None => [call.ways_answered(), call.ways_unseen(list.len())].concat(),
         Some(Fault::Entry(index)) => call.ways_of_entry(*index),
-        Some(Fault::Count) => call.ways_of_count(),
+        Some(Fault::Count) => call.ways_of_count(list.len()),
         Some(_) => call.ways_of_number(),
     }
 }
 
 /// The words that apply.
-fn applying(words: &[(&'static str, bool)]) -> Vec<&'static str> {
+pub fn applying(words: &[(&'static str, bool)]) -> Vec<&'static str> {
     words.iter().filter(|(_, applies)| *applies).map(|(word, _)| *word).collect()
 }
 
@@ -82,6 +89,18 @@ impl Call {
         ])
     }
 
+    /// What has no say: the fifth word of the entry that gives the value, and words that are no whole entry.
+    fn ways_unseen(&self, words: usize) -> Vec<&'static str> {
+        let fifth = self.naming().first().map(|(_, entry)| entry.fifth);
+        let odd_words = self.behind.is_empty() && words % ENTRY_WORDS != 0;
+        applying(&[
+            ("value, the fifth word is 0", fifth == Some(0)),
+            ("value, the fifth word is a code", fifth.is_some_and(|fifth| (1..=4095).contains(&fifth))),
+            ("value, the fifth word is no code", fifth.is_some_and(|fifth| fifth > 4095)),
+            ("answered, less than an entry behind all that are counted", odd_words),
+        ])
+    }
+
     fn ways_of_number(&self) -> Vec<&'static str> {
         let (first, second) = (self.faults.contains(&Fault::First), self.faults.contains(&Fault::Second));
         let bad_list = self.faults.iter().any(|fault| matches!(fault, Fault::Count | Fault::Entry(_)));
@@ -94,12 +113,19 @@ impl Call {
         ])
     }
 
-    fn ways_of_count(&self) -> Vec<&'static str> {
+    fn ways_of_count(&self, words: usize) -> Vec<&'static str> {
         let bad_entry = self.faults.iter().any(|fault| matches!(fault, Fault::Entry(_)));
+        let needed = self.asked.entries.checked_mul(ENTRY_WORDS);
+        let without_fifth = self.asked.entries.checked_mul(ENTRY_WORDS - 1);
         applying(&[
             ("17 for the count", true),
             ("17 for the count, and a bad entry", bad_entry),
-            ("17 for the count, whose words are too many for 64 bits", self.asked.entries.checked_mul(4).is_none()),
+            ("17 for the count, whose words are too many for 64 bits", needed.is_none()),
+            ("17 for the count, a word is missing", needed == Some(words + 1)),
+            (
+                "17 for the count, though there are four words for each entry",
+                without_fifth.is_some_and(|needed| needed <= words),
+            ),
         ])
     }
 
@@ -138,7 +164,7 @@ mod tests {
     fn every_way_that_a_call_can_go_is_owed() {
         let mut random = Random::new(17);
         for _ in 0..20_000 {
-            let list: Vec<u16> = (0..random.below(14)).map(|_| random.below(4) as u16).collect();
+            let list: Vec<u16> = (0..random.below(17)).map(|_| random.below(4) as u16).collect();
             let [contexts, first, second] = [(); 3].map(|()| random.below(4) as u16);
             let entries = if random.once_in(9) { usize::MAX } else { random.below(5) };
             let ways = ways(Asked { contexts, entries, first, second }, &list);

@@ -10,7 +10,7 @@ use crate::damage::{all_sites, Tables};
 use crate::ffi::{self, Lent};
 use crate::heat::{self, similarity, Asked, Bits, Cell, Told};
 use crate::lists::{all_questions, cells_below, some_question, Question};
-use crate::paper::{self, Findings, Survey};
+use crate::paper::{self, Findings, Survey, ENTRY_WORDS};
 use crate::random::{large_kind, seed_of, slices, some_site, tables, Contexts, Random};
 use crate::tally::{Outcome, Tally};
 use crate::ways::{ways, LARGE_MAP, MAP, NO_ANSWER, NO_VALUE, WAYS};
@@ -190,16 +190,35 @@ fn whole_map(random: &mut Random, contexts: &[Vec<u16>], survey: &Survey, k: u16
         }
         ask(random, asked, &mut list, EXACT, told)?;
     }
-    other_counts(random, number, found, &mut list)
+    other_counts(random, number, found, &mut list)?;
+    other_codes(random, number, &valued, words)
 }
 
 /// Some cells of the same buffer with other counts: behind the entries found there are zeros, which are no entries.
 fn other_counts(random: &mut Random, contexts: u16, found: usize, list: &mut List) -> Result<(), String> {
-    let held = list.words.len() / 4;
+    let held = list.words.len() / ENTRY_WORDS;
     for entries in [random.below(found + 1), found + 1, held, held + 1] {
         let [first, second] = [(); 2].map(|()| random.below(usize::from(contexts) + 1) as u16);
         let asked = Asked { contexts, entries, first, second };
         ask(random, asked, list, EXACT, heat::cell(asked, list.words))?;
+    }
+    Ok(())
+}
+
+/// The cells that hold a value once more, with junk for the fifth word of each entry: nobody looks at it.
+fn other_codes(
+    random: &mut Random,
+    contexts: u16,
+    valued: &BTreeMap<(u16, u16), Bits>,
+    words: &[u16],
+) -> Result<(), String> {
+    let entries = valued.len() / 2;
+    let (mut words, junk) = (words.to_vec(), random.junk_words(entries));
+    words.chunks_exact_mut(ENTRY_WORDS).zip(junk).for_each(|(entry, junk)| entry[ENTRY_WORDS - 1] = junk);
+    let mut list = List::new(random, &words);
+    for (&(first, second), &bits) in valued {
+        let asked = Asked { contexts, entries, first, second };
+        ask(random, asked, &mut list, EXACT, Ok(Cell::Value(bits)))?;
     }
     Ok(())
 }
@@ -257,7 +276,7 @@ fn every_similarity() -> Result<u64, String> {
     let counts: Vec<(u16, u16)> = small.chain((1..=65_535).map(|shared| (shared, 65_535))).collect();
     let asked = Asked { contexts: 2, entries: 1, first: 1, second: 0 };
     for &(shared, union) in &counts {
-        let question = Question { asked, list: vec![0, 1, shared, union] };
+        let question = Question { asked, list: vec![0, 1, shared, union, random.next() as u16] };
         ask_once(&mut random, &question, EXACT, Ok(Cell::Value(similarity(shared, union))))?;
     }
     Ok(counts.len() as u64)

@@ -2,14 +2,16 @@
 //! all.' The join of a site and the join of the doubled site are compared with one another, for every k up to one more
 //! than the pairs there are, and each of them with the paper.
 
+use std::collections::BTreeSet;
+
 use super::join::{ample_rooms, Trial};
 use super::{Choice, Kind};
 use crate::cases;
 use crate::damage::{all_sites, shown, Tables};
-use crate::doubling::{can_be_doubled, doubled, events_doubled, some_site};
+use crate::doubling::{can_be_doubled, doubled, doubled_entry, events_doubled, some_site};
 use crate::ffi::JoinBuffers;
-use crate::paper::{self, Rooms, Survey};
-use crate::random::{large_kind, seed_of, slices, tables, Random};
+use crate::paper::{self, EntryWords, Rooms, Survey, ENTRY_WORDS};
+use crate::random::{large_kind, seed_of, slices, tables, Contexts, Random};
 use crate::sheet;
 use crate::tally::Outcome;
 
@@ -46,7 +48,7 @@ impl<'a> Site<'a> {
         let findings = self.survey.find(k);
         let met = findings.trail.len();
         let rooms = if exact {
-            Rooms { list: 4 * k, work: 10_240, trail: 2 * met }
+            Rooms { list: ENTRY_WORDS * k, work: 10_240, trail: 2 * met }
         } else {
             ample_rooms(random, k as u16, met)
         };
@@ -83,12 +85,18 @@ fn same(sizes: &[usize], k: usize, once: &JoinBuffers, again: &JoinBuffers) -> R
     differ("found", found, found_again)?;
     differ("met", met, met_again)?;
     let (found, met) = (found as usize, met as usize);
-    let list = &once.list.words()[..4 * found];
-    let twice: Vec<u16> = list.chunks(4).flat_map(|pair| [pair[0], pair[1], 2 * pair[2], 2 * pair[3]]).collect();
-    differ("the list", twice.as_slice(), &again.list.words()[..4 * found])?;
+    let (list, list_again) = (entries(once, found), entries(again, found));
+    let twice: Vec<EntryWords> = list.iter().copied().map(doubled_entry).collect();
+    differ("the list", twice, list_again)?;
     differ("the trail", &once.trail.words()[..2 * met], &again.trail.words()[..2 * met])?;
-    let cut_off = list.chunks(4).nth(k - 1).map(|pair| (usize::from(pair[2]), usize::from(pair[3])));
+    let cut_off = list.get(k - 1).map(|&[_, _, shared, union, _]| (usize::from(shared), usize::from(union)));
     differ("events", events_doubled(events, sizes, cut_off), events_again)
+}
+
+/// The entries that a join has found.
+fn entries(joined: &JoinBuffers, found: usize) -> Vec<EntryWords> {
+    let words = &joined.list.words()[..ENTRY_WORDS * found];
+    words.chunks(ENTRY_WORDS).map(|words| words.try_into().expect("an entry")).collect()
 }
 
 fn differ<T: PartialEq + std::fmt::Debug>(name: &str, expected: T, got: T) -> Result<(), String> {
@@ -105,15 +113,18 @@ fn trial(choice: &Choice, number: u64) -> Result<Outcome, String> {
     keeps_the_law(&mut random, &site).map(|()| Some(0).into())
 }
 
-/// The sites of the joins by name that are accepted.
+/// The sites of the joins by name that are accepted, each once.
 fn named() -> Result<u64, String> {
     let mut random = Random::new(0);
-    let accepted: Vec<cases::JoinCase> = cases::joins().into_iter().filter(|case| case.answer[0] == 0).collect();
-    for case in &accepted {
+    let mut tried: BTreeSet<Contexts> = BTreeSet::new();
+    for case in cases::joins().iter().filter(|case| case.answer[0] == 0) {
         let site = paper::contexts(&case.offsets, &case.codes).into_iter().map(<[u16]>::to_vec).collect();
-        keeps_the_law(&mut random, &can_be_doubled(site)).map_err(|what| format!("case '{}'\n{what}", case.name))?;
+        let site = can_be_doubled(site);
+        if tried.insert(site.clone()) {
+            keeps_the_law(&mut random, &site).map_err(|what| format!("case '{}'\n{what}", case.name))?;
+        }
     }
-    Ok(accepted.len() as u64)
+    Ok(tried.len() as u64)
 }
 
 /// Every site of up to four contexts over three codes.

@@ -4,7 +4,8 @@ use super::{Choice, Kind};
 use crate::cases;
 use crate::damage::{all_sites, all_tables, break_tables, Tables};
 use crate::ffi::{self, JoinBuffers, Lent};
-use crate::paper::{self, Joined, Rooms, Survey};
+use crate::join_ways::{ways, WAYS};
+use crate::paper::{self, Joined, Rooms, Survey, ENTRY_WORDS};
 use crate::random::{large_kind, seed_of, slices, some_site, tables, Random};
 use crate::tally::{Outcome, Tally};
 
@@ -12,7 +13,7 @@ pub const KIND: Kind = Kind {
     name: "join",
     gate: 30_120,
     owed: &[0, 1, 2, 3, 4, 5, 6, 7, 8],
-    ways: &[],
+    ways: WAYS,
     threads: 1,
     of_program: false,
     named: cases_by_name,
@@ -35,7 +36,10 @@ impl Trial {
         let Tables { k, offsets, codes } = &self.tables;
         let expected = paper::join(*k, offsets, codes, self.rooms);
         self.call(random, &expected)?;
-        Ok((self.answer >= 4).then_some(expected.answer[0]).into())
+        if self.answer < 4 {
+            return Ok(None.into());
+        }
+        Ok(Outcome { end: Some(expected.answer[0]), ways: ways(&self.tables, self.rooms, &expected) })
     }
 
     /// Calls the join with junk in each buffer and compares all with what is expected; gives the buffers.
@@ -102,7 +106,7 @@ pub fn some_k(random: &mut Random, sharing: usize) -> u16 {
 
 /// Rooms that are enough: exact, or longer, odd lengths too.
 pub fn ample_rooms(random: &mut Random, k: u16, met: usize) -> Rooms {
-    let exact = 4 * usize::from(k);
+    let exact = ENTRY_WORDS * usize::from(k);
     Rooms {
         list: match random.below(4) {
             0 | 1 => exact,
@@ -125,12 +129,14 @@ pub fn ample_rooms(random: &mut Random, k: u16, met: usize) -> Rooms {
 
 /// One of the rooms, or all three, made too short.
 fn shorten(random: &mut Random, rooms: &mut Rooms, k: u16, met: usize) {
-    let exact = 4 * usize::from(k);
+    let exact = ENTRY_WORDS * usize::from(k);
     let which = random.below(10);
     if which < 3 {
-        rooms.list = match random.below(3) {
+        rooms.list = match random.below(4) {
             0 => 0,
             1 => exact.saturating_sub(1),
+            // Entries without their fifth word.
+            2 => exact - usize::from(k),
             _ => random.below(exact.max(1)),
         };
     }
@@ -235,7 +241,7 @@ fn every_k(random: &mut Random, contexts: &[Vec<u16>], tally: &mut Tally) -> Res
         let room = 2 * findings.trail.len();
         for trail in [Some(room), room.checked_sub(1)].into_iter().flatten() {
             let tables = Tables { k: k as u16, offsets: offsets.clone(), codes: codes.clone() };
-            let trial = Trial { tables, rooms: Rooms { list: 4 * k, work: 10_240, trail }, answer: 4 };
+            let trial = Trial { tables, rooms: Rooms { list: ENTRY_WORDS * k, work: 10_240, trail }, answer: 4 };
             let expected = paper::searched(&findings, trail);
             trial.call(random, &expected)?;
             tally.add(Some(expected.answer[0]));
@@ -251,7 +257,7 @@ fn every_table() -> Result<Tally, String> {
     for (offsets, codes) in all_tables() {
         let trial = Trial {
             tables: Tables { k: 1, offsets, codes },
-            rooms: Rooms { list: 4, work: 10_240, trail: 8 },
+            rooms: Rooms { list: ENTRY_WORDS, work: 10_240, trail: 8 },
             answer: 4,
         };
         tally.add(trial.run(&mut random)?);
