@@ -99,7 +99,6 @@ def ratios(root):
     wrong = differ("join / topk-join", {
         "docs/BENCHMARKS.md": plain(bench.find(rf"plain topk-join the proved join takes {ranges} of the time")),
         "README.md": plain(readme.find(rf"^About {ranges} times the time of a plain topk-join")),
-        "CHANGELOG.md": plain(Text(root, "CHANGELOG.md").find(rf"engine\.\*\* {ranges} times")),
     })
     wrong += differ("join / all-pairs", {
         "docs/BENCHMARKS.md": plain(bench.find(rf"plain all-pairs it takes {ranges} of the time")),
