@@ -75,7 +75,8 @@ def limits(root):
         "crates/tables": number(Text(root, "crates/tables/src/lib.rt").find(r"if k > (\d+)")[0]),
     })
     wrong += differ("words of an entry", {
-        "README.md": number(readme.find(r"^\| 6 \| the list buffer has under (\d+)k words")[0]),
+        "README.md, refusals": number(readme.find(r"^\| 6 \| the list buffer has under (\d+)k words")[0]),
+        "README.md, limits": number(readme.find(r"^\| list of the join \| (\d+) words of 16 bits")[0]),
         "host/sazamkhri.h": number(header.find(r"#define SAZAMKHRI_ENTRY_WORDS (\d+)$")[0]),
         "crates/entries": number(Text(root, "crates/entries/src/lib.rt").find(r"const WIDTH: usize = (\d+)")[0]),
     })

@@ -48,8 +48,8 @@ def line_of(pair):
 
 
 def no_pair(lines, line, found):
-    """Why no pair stands in a line. One that is only old is told from one that is spoilt."""
-    if line <= len(lines) and numbers_of(lines[line - 1], OLD_NUMBERS):
+    """Why no pair stands in a line. A listing that is only old is known by its first pair."""
+    if line == len(HEADS) + 1 <= len(lines) and numbers_of(lines[line - 1], OLD_NUMBERS):
         return NoListing(f"this is a line of an older version, with four numbers: {ascii(lines[line - 1])}. "
                          "List the sheet again.", line)
     wanted = "two contexts, shared, union, first shared code"

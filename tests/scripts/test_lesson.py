@@ -175,7 +175,7 @@ class ByShared(Case):
             head + two + "\n": ("line 7", "no more"),
             head + two[:-1]: ("line 6", "line end"),
             head + "pair=0 1 2 3\npair=0 2 1 2\n": ("line 5", "'pair=0 1 2 3'", *old),
-            head + two.replace("0 2 1 2 0", "0 2 1 2"): ("line 6", "'pair=0 2 1 2'", *old),
+            head + two.replace("0 2 1 2 0", "0 2 1 2"): ("line 6", "a pair belongs here", "'pair=0 2 1 2'"),
             head + two.replace("0 2 1 2 0", "0 2 1 2 "): ("line 6", "a pair belongs here"),
             head + two.replace("0 2 1 2 0", "0 2 1"): ("line 6", "a pair belongs here"),
             head + two.replace("0 2 1 2 0", "0 2 1 2 0 7"): ("line 6", "a pair belongs here", "first shared code"),
@@ -188,7 +188,8 @@ class ByShared(Case):
             head + two.replace("0 2 1 2", "0 2 3 2"): ("line 6", "a pair belongs here"),
             head + two.replace("0 2 1 2", "0 1 1 2"): ("line 6", "once"),
             head + two.replace("0 2 1 2", "0 2 3 4"): ("line 6", "more alike"),
-            head + "pair=0 2 1 2 3\npair=0 1 2 4 3\n": ("line 6", "same ratio"),
+            head + "pair=0 2 1 2 3\npair=0 1 2 4 4\n": ("line 6", "same ratio"),
+            head + "pair=0 2 1 2 4\npair=0 1 2 4 3\n": ("line 6", "same ratio"),
             head + two + "x" * 3000: ("more than 2,048 bytes",),
             "k=" + "9" * 2000 + "\n": ("line 1",),
         }

@@ -13,7 +13,7 @@ use Rattle.order.specs.Order.{_∈_}
 use Rattle.site.specs.Site.{Pair}
 use Rattle.search.specs.Outcome.{Tells}
 use Rattle.join.specs.Join.{callSite}
-use Rattle.join.proofs.Demands.{Demand-1, Demand-2, Demand-3, callList, demand-1, demand-2, demand-3}
+use Rattle.join.proofs.Demands.{Demand-1, Demand-2, FifthWords, Demand-3, callList, demand-1, demand-2, fifth-words, demand-3}
 use Rattle.join.proofs.Only.{callOf, join-says}
 use Rattle.join.proofs.join.Kinds as join-kinds
 use Rattle.join.proofs.join.Reads as join
@@ -84,9 +84,13 @@ cell-refusals κs a u x p = cell-refuses (cell-of-says κs a u x p)
 
 -- ---- demand 2: the list, and sheets and tables that come back
 
--- the list of a join that tells f, e and m
+-- the list of a join that tells f, e and m, over the first four words of its entries
 pub join-list : Says 5 join-kinds.ps join-kinds.r join.Post (λ κs a u x. (f e m : ℕ) → Tells u 0 (f ∷ e ∷ m ∷ []) → Demand-2 (callOf κs a u x) f)
 join-list = demand-2
+
+-- and the fifth word of each of its entries
+pub join-fifth : Says 5 join-kinds.ps join-kinds.r join.Post (λ κs a u x. (f e m : ℕ) → Tells u 0 (f ∷ e ∷ m ∷ []) → FifthWords (callOf κs a u x) f)
+join-fifth = fifth-words
 
 -- a call of `read` and one of `write`
 module _ (κs κs′ : Lfts 3) (a : Dens κs read-kinds.ps) (b : Dens κs′ write-kinds.ps)
@@ -119,7 +123,7 @@ pub heat-map : (κs : Lfts 5) (κs′ : Lfts 1) (a : Dens κs join-kinds.ps) (b 
     (u : resT join-kinds.r κs .Denot) (v : resT cell-of-kinds.r κs′ .Denot)
     (x : AtExit (endedOf 5 join-kinds.ps join-kinds.r) κs) (y : AtExit (endedOf 1 cell-of-kinds.ps cell-of-kinds.r) κs′)
     → join.Post κs a u x → cell-of.Post κs′ b v y → MapsList (callOf κs a u x) (cellCall κs′ b v)
-heat-map κs κs′ a b u v x y p q f e m told n k l A B = map-cell (join-says κs a u x p) told (cell-of-says κs′ b v y q) n k l A B
+heat-map κs κs′ a b u v x y p q f e m told n k room four A B = map-cell (join-says κs a u x p) told (cellCall κs′ b v) q n k room four A B
 
 -- the value of a pair on the list of a join that tells f, e and m
 pub map-value : Says 5 join-kinds.ps join-kinds.r join.Post (λ κs a u x. (f e m : ℕ) → Tells u 0 (f ∷ e ∷ m ∷ [])

@@ -2,13 +2,13 @@
 use mathlib.Core.List.{[], _∷_, map}
 use mathlib.Core.Logic.{_↔_}
 use mathlib.Core.Path.{_≡_}
-use Prim.Native.Nat.{ℕ, _*_, _<_}
+use Prim.Native.Nat.{ℕ, _*_, _≤_, _<_}
 use lib.Dec.{T}
 use lib.Ieee.{Float, lt, le}
-use lib.ListN.{length, take}
+use lib.ListN.{length}
 use Rattle.order.specs.Order.{_∈_}
 use Rattle.site.specs.Site.{Site, Pair, sharedOf, unionOf}
-use Rattle.entries.specs.Entries.{width, firstFour}
+use Rattle.entries.specs.Entries.{width, firstFour, entries}
 use Rattle.search.specs.Outcome.{Tells}
 use Rattle.join.specs.Join.{JoinCall, callSite}
 use Rattle.join.proofs.Demands.{callList}
@@ -48,11 +48,12 @@ pub record OnMap (j : JoinCall) (c : CellCall) : Type 0 where
   pub blank : (cellPair c ∈ callList j → ⊥) → c .answer ≡ answer.Cell cell.Blank
 
 -- A join that tells f pairs found, and a cell of two of its contexts: given to `cell_of` are the number of contexts, f, and a list
--- that begins with the f entries that the join left, whatever stands behind them.
+-- whose first f entries have the first four words of those that the join left, whatever their fifth are and what stands behind them.
 abbrev pub MapsList : JoinCall → CellCall → Type 0
 MapsList j c =
     (f e m : ℕ) → Tells (j .answer) 0 (f ∷ e ∷ m ∷ [])
-    → c .contexts ≡ length (callSite j) → c .entries ≡ f → take (width * f) (c .list) ≡ take (width * f) (j .list′)
+    → c .contexts ≡ length (callSite j) → c .entries ≡ f
+    → width * f ≤ length (c .list) → map firstFour (entries f (c .list)) ≡ map firstFour (entries f (j .list′))
     → c .first < c .contexts → c .second < c .contexts → OnMap j c
 
 -- The rounding loses nothing: of two pairs the one with the smaller shared / union has the smaller value, and two values are equal

@@ -1,9 +1,8 @@
 -- The order of entries is that of their pairs: cross products of positive denominators are the order of similarities.
 -- So among entries of positive unions it ranks.
 use mathlib.Core.Bool.{Bool, true, false}
-use mathlib.Core.List.{List}
 use mathlib.Core.Path.{_≡_, refl, sym, ap, ap₂, _∙_}
-use Prim.Native.Nat.{ℕ, _<_}
+use Prim.Native.Nat.{_<_}
 use native.Mathlib.Omega.{arith}
 use Rattle.order.specs.Order.{Ranks, _thenBy_, by}
 use Rattle.order.proofs.Orders.{ltb-orders, not-after-trans, by-ranks, then-first, then-after, then-tied, then-agrees, then-ranks}
@@ -17,8 +16,9 @@ use Rattle.site.proofs.Contexts.{shared-within}
 use Rattle.walk.specs.declared.Fraction.{Fraction}
 use Rattle.walk.specs.Fractions.{ratioOf, lower}
 use Rattle.walk.proofs.Fractions.{lower-below}
-use Rattle.entries.specs.Entries.{entryOf, entryPair, firstFour, entryAt, similarityOf, moreAlike, entryBefore}
+use Rattle.entries.specs.Entries.{entryOf, entryPair, firstFour, similarityOf, moreAlike, entryBefore}
 use Rattle.entries.specs.declared.Entry.{Entry}
+use Rattle.entries.proofs.Reading.{same-uncoded}
 
 -- ---- what `rank_before` tells
 
@@ -50,10 +50,11 @@ module _ (e f : Entry) {s t : Fraction} (p : s ≡ similarityOf e) (q : t ≡ si
 pub four-order : (e f g h : Entry) → firstFour e ≡ firstFour g → firstFour f ≡ firstFour h → entryBefore e f ≡ entryBefore g h
 unfolding entryBefore moreAlike
 four-order e f g h a b =
-    let s = ap (λ (ws : List ℕ). similarityOf (entryAt ws 0)) a in
-    let t = ap (λ (ws : List ℕ). similarityOf (entryAt ws 0)) b in
-    then-agrees _ _ _ _ e f g h (ap₂ lower t s) (ap₂ lower s t)
-    (ap₂ numbersBefore (ap (λ (ws : List ℕ). entryPair (entryAt ws 0)) a) (ap (λ (ws : List ℕ). entryPair (entryAt ws 0)) b))
+    let p = same-uncoded e g a in
+    let q = same-uncoded f h b in
+    let s = ap (λ (x : Entry). similarityOf x) p in
+    let t = ap (λ (x : Entry). similarityOf x) q in
+    then-agrees _ _ _ _ e f g h (ap₂ lower t s) (ap₂ lower s t) (ap₂ numbersBefore (ap (λ (x : Entry). entryPair x) p) (ap (λ (x : Entry). entryPair x) q))
 
 -- ---- entries of positive unions
 

@@ -7,7 +7,7 @@ use mathlib.Core.Option.{Option, none, some, Option·map}
 use mathlib.Core.Path.{_≡_, refl, sym, ap, _∙_}
 use Prim.Native.Nat.{ℕ, zero, suc, _+_, _*_, _-_, _≤_, _<_, min}
 use native.Mathlib.Omega.{arith}
-use lib.ListN.{length, take, replicate, length-append, length-map, length-replicate}
+use lib.ListN.{length, take, drop, replicate, length-append, length-map, length-replicate, take-append-drop}
 use Rattle.order.specs.Order.{_∈_, insertBy, kth}
 use Rattle.order.proofs.Lists.{take-map, pairwise-imp, map-pairwise}
 use Rattle.order.proofs.Kth.{kth-in, kth-is, kth-none}
@@ -22,20 +22,23 @@ use Rattle.site.proofs.Top.{top-sorted, top-add, top-length, top-none, top-in}
 use Rattle.walk.specs.declared.Fraction.{Fraction}
 use Rattle.walk.specs.Fractions.{ratioOf, lower}
 use Rattle.walk.proofs.Fractions.{lower-below}
-use Rattle.words.specs.Words.{flat, padded}
+use Rattle.words.specs.Words.{flat, Begins}
 use Rattle.words.proofs.Words.{padded-none}
 use Rattle.entries.specs.Entries.{width, entryOf, entryAt, entries, similarityOf, entryBefore, Ordered, inserted, Inserts, belowEntry}
 use Rattle.entries.specs.declared.Entry.{Entry}
 use Rattle.entries.specs.Listed.{entryWords, Listed, Proper}
-use Rattle.entries.proofs.Reading.{flat-width, length-entries, entries-at, entries-padded, entries-held}
+use Rattle.entries.proofs.Reading.{flat-width, length-entries, entries-at, read-back, entries-held}
 use Rattle.entries.proofs.Alike.{union-positive, same-order}
 
 pub entry-length : (site : Site) (pairs : List Pair) → length (entryWords site pairs) ≡ width * length pairs
 entry-length site pairs = flat-width (map (entryOf site) pairs) ∙ ap (λ (n : ℕ). width * n) (length-map pairs (entryOf site))
 
--- read from a buffer of them with zeros behind
-pub entries-back : (site : Site) (pairs : List Pair) (n : ℕ) {f : ℕ} {list : List ℕ} → f ≡ length pairs → list ≡ padded n (entryWords site pairs) → entries f list ≡ map (entryOf site) pairs
-entries-back site pairs n q h = rw (q ∙ sym (length-map pairs (entryOf site)), h) (entries-padded n (map (entryOf site) pairs))
+-- the entries of some pairs, read from a buffer that begins with their words
+pub entries-back : (site : Site) (pairs : List Pair) (list : List ℕ) {f : ℕ} → f ≡ length pairs → Begins list (entryWords site pairs) → entries f list ≡ map (entryOf site) pairs
+entries-back site pairs list q h =
+    let ws = entryWords site pairs in
+    let whole : ws ++ drop (length ws) list ≡ list = ap (λ (l : List ℕ). l ++ drop (length ws) list) (sym h) ∙ take-append-drop (length ws) list in
+    rw (q ∙ sym (length-map pairs (entryOf site)), ← whole) (read-back [] (map (entryOf site) pairs) (drop (length ws) list))
 
 pub listed-start : (site : Site) (k n : ℕ) → Listed site k [] (replicate n 0) 0
 unfolding flat

@@ -11,7 +11,7 @@ use lib.Seq.{take-add, drop-drop, getD-append-add, getD-append-seam}
 use Rattle.words.specs.Words.{flat, padded, Holds}
 use Rattle.words.proofs.Lists.{readFrom, read-part}
 use Rattle.words.proofs.Words.{flat-length}
-use Rattle.entries.specs.Entries.{context, width, words, entryAt, entriesFrom, entries}
+use Rattle.entries.specs.Entries.{context, width, firstFour, words, entryAt, entriesFrom, entries}
 use Rattle.entries.specs.declared.Entry.{Entry}
 
 pub words-width : (e : Entry) → length (words e) ≡ width
@@ -64,6 +64,15 @@ module _ (ws : List ℕ) where
   pub entries-at : (n i : ℕ) (d : Entry) → i < n → getD (entries n ws) i d ≡ entryAt ws (width * i)
   entries-at n i d h = rw zero-add at (entries-from 0 n i d h)
 
+-- ---- the first four words alone
+
+-- the entry without its code
+abbrev pub uncoded : Entry → Entry
+uncoded e = entryAt (firstFour e) 0
+
+pub same-uncoded : (e f : Entry) → firstFour e ≡ firstFour f → uncoded e ≡ uncoded f
+same-uncoded e f q = ap (λ (ws : List ℕ). entryAt ws 0) q
+
 -- ---- and back
 
 entry-eq : (e f : Entry) → e .lower .0 ≡ f .lower .0 → e .higher .0 ≡ f .higher .0 → e .shared ≡ f .shared → e .union ≡ f .union → e .code ≡ f .code → e ≡ f
@@ -78,7 +87,7 @@ read-back front (e ∷ es) behind =
     let n : length front + width ≡ length (front ++ words e) = sym (length-append front (words e)) in
     ap₂ _∷_ (entry-eq (entryAt (front ++ ws) (length front)) e (getD-append-seam front _ _ 0) (getD-append-add front ws 1 0) (getD-append-add front ws 2 0) (getD-append-add front ws 3 0) (getD-append-add front ws 4 0)) (rw (n, q) (read-back (front ++ words e) es behind))
 
-pub entries-padded : (n : ℕ) (es : List Entry) → entries (length es) (padded n (flat words es)) ≡ es
+entries-padded : (n : ℕ) (es : List Entry) → entries (length es) (padded n (flat words es)) ≡ es
 unfolding padded
 entries-padded n es = read-back [] es (replicate (n - length (flat words es)) 0)
 

@@ -1,10 +1,11 @@
 -- Worked cells, by computation: one table with one claim.
 use mathlib.Core.List.{List, [], _∷_, _++_, map}
 use mathlib.Core.Path.{_≡_, refl}
-use Prim.Native.Nat.{ℕ}
+use Prim.Native.Nat.{ℕ, _-_}
+use lib.ListN.{replicate}
 use Rattle.order.specs.Order.{keep, kth}
 use Rattle.tables.specs.Earliest.{firstOf, earliest}
-use Rattle.entries.specs.Entries.{context, words, entriesFrom}
+use Rattle.entries.specs.Entries.{context, width, words, entriesFrom}
 use Rattle.heat.specs.Cells.{quotient, names, entryFor, cellIn}
 use Rattle.heat.specs.Checks.{numbersCheck, countCheck, entryRule, ruleAt, cellCheck}
 use Rattle.heat.specs.Answers.{cellOf}
@@ -28,10 +29,10 @@ case contexts list entries first second answer = record { contexts = contexts; l
 unfoldable entry : ℕ → ℕ → ℕ → ℕ → ℕ → List ℕ
 entry lower higher shared union code = words (record { lower = context lower; higher = context higher; shared = shared; union = union; code = code })
 
--- 'Three' with k = 2: two entries, and here four words of no whole entry behind them
+-- 'Three' with k = 2: two entries, and here words behind them that are one too few for a third
 unfoldable three : List ℕ
 unfolding entry
-three = entry 0 1 4 5 2 ++ entry 1 2 4 5 1 ++ 9 ∷ 9 ∷ 9 ∷ 9 ∷ []
+three = entry 0 1 4 5 2 ++ entry 1 2 4 5 1 ++ replicate (width - 1) 9
 
 -- one pair twice, and a wrong entry behind: its contexts are equal
 unfoldable twice : List ℕ

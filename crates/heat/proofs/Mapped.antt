@@ -1,13 +1,13 @@
 -- The cells of two contexts turned round, and over the entries of pairs that share a code, as a join leaves them in its list.
 use mathlib.Core.Bool.{true, and-eq-true-iff}
-use mathlib.Core.List.{List, [], _∷_, _++_, map, List·Memᴰ·head as here, List·Memᴰ·tail as there, List·Memᴰ·not-nil as not-nil, List·Memᴰ·cases-cons as first-or-rest}
+use mathlib.Core.List.{List, [], _∷_, map, List·Memᴰ·head as here, List·Memᴰ·tail as there, List·Memᴰ·not-nil as not-nil, List·Memᴰ·cases-cons as first-or-rest}
 use mathlib.Core.Logic.{⊎-elim}
 use mathlib.Core.Option.{none, some}
 use mathlib.Core.Path.{_≡_, refl, sym, ap, _∙_}
 use Prim.Native.Nat.{ℕ, _*_, _/_, _≤_, _<_, min, max, zero-le}
 use native.Mathlib.Omega.{arith}
 use lib.Dec.{eqb}
-use lib.ListN.{length, getD, drop, length-map, length-take, take-append-drop}
+use lib.ListN.{length, getD, length-take}
 use borrow.Author.Tests.{eq-eqb, ne-eqb, lt-ltb, le-ltb, eqb-true}
 use Rattle.words.specs.Words.{Begins}
 use Rattle.words.proofs.Lists.{map-at}
@@ -21,8 +21,8 @@ use Rattle.tables.proofs.Meaning.{means-fine}
 use Rattle.entries.specs.Entries.{width, entryOf, entries}
 use Rattle.entries.specs.Listed.{entryWords}
 use Rattle.entries.specs.declared.Entry.{Entry}
-use Rattle.entries.proofs.Listed.{entry-length}
-use Rattle.entries.proofs.Reading.{entries-at, read-back}
+use Rattle.entries.proofs.Listed.{entry-length, entries-back}
+use Rattle.entries.proofs.Reading.{entries-at}
 use Rattle.heat.specs.Cells.{quotient, asPair, names, entryFor, cellIn}
 use Rattle.heat.specs.Checks.{numbersCheck, countCheck, entryRule, ruleAt, cellCheck}
 use Rattle.heat.specs.Answers.{cellOf}
@@ -97,13 +97,6 @@ module _ (site : Site) (pairs : List Pair) (list : List ℕ) {found : ℕ} (h : 
   room : width * found ≤ length list
   room = omega (arith, c, entry-length site pairs, ap length h, length-take (length (entryWords site pairs)) list)
 
-  -- they are read from it
-  pub back : entries found list ≡ map (entryOf site) pairs
-  back =
-      let es = map (entryOf site) pairs in
-      let whole : entryWords site pairs ++ drop (length (entryWords site pairs)) list ≡ list = ap (λ (ws : List ℕ). ws ++ drop (length (entryWords site pairs)) list) (sym h) ∙ take-append-drop (length (entryWords site pairs)) list in
-      rw (c ∙ sym (length-map pairs (entryOf site)), ← whole) (read-back [] es (drop (length (entryWords site pairs)) list))
-
   module _ (R : Rising site) (share : (p : Pair) → p ∈ pairs → Shares site p) where
     kept-at : (i : ℕ) → i < found → ruleAt (length site) list i ≡ 0
     unfolding ruleAt
@@ -111,7 +104,7 @@ module _ (site : Site) (pairs : List Pair) (list : List ℕ) {found : ℕ} (h : 
         let any = asPair 0 0 in
         let d = entryOf site any in
         let l′ : i < length pairs = omega (arith, c) in
-        let e = sym (entries-at list found i d l) ∙ ap (λ (es : List Entry). getD es i d) back ∙ map-at (entryOf site) pairs i d any l′ in
+        let e = sym (entries-at list found i d l) ∙ ap (λ (es : List Entry). getD es i d) (entries-back site pairs list c h) ∙ map-at (entryOf site) pairs i d any l′ in
         ap (entryRule (length site)) e ∙ rule-kept R (getD pairs i any) (share (getD pairs i any) (getD-in pairs i any l′))
 
     -- no cell of two contexts of the site is refused

@@ -15,15 +15,11 @@ use Rattle.tables.specs.Checks.{_andThen_}
 use Rattle.tables.proofs.Meaning.{earliest-ext}
 use Rattle.entries.specs.Entries.{width, firstFour, entryAt, entries}
 use Rattle.entries.specs.declared.Entry.{Entry}
-use Rattle.entries.proofs.Reading.{length-entries, entries-at}
+use Rattle.entries.proofs.Reading.{length-entries, entries-at, uncoded}
 use Rattle.heat.specs.Cells.{asPair, names, entryFor, cellFor, cellIn}
 use Rattle.heat.specs.Checks.{numbersCheck, countCheck, entryRule, ruleAt, cellCheck}
 use Rattle.heat.specs.Answers.{cellBy, cellOf}
 use Rattle.heat.specs.declared.Cell.the-variants.{Blank}
-
--- the entry with the code 0
-abbrev uncoded : Entry → Entry
-uncoded e = entryAt (firstFour e) 0
 
 -- the rule is that of the first four words
 rule-uncoded : (contexts : ℕ) (e : Entry) → entryRule contexts e ≡ entryRule contexts (uncoded e)
@@ -36,19 +32,19 @@ unfolding entryFor keep kth names
 cell-uncoded p [] = refl
 cell-uncoded p (e ∷ es) = cases (names p e) (λ t. rw t) (λ f. rw f (cell-uncoded p es))
 
+-- the entry i without its code
+uncoded-at : (n : ℕ) (ws : List ℕ) (i : ℕ) → i < n → getD (map uncoded (entries n ws)) i (entryAt [] 0) ≡ uncoded (entryAt ws (width * i))
+uncoded-at n ws i h =
+    map-at uncoded (entries n ws) i (entryAt [] 0) (entryAt [] 0) (omega (arith, length-entries ws 0 n)) ∙ ap uncoded (entries-at ws n i (entryAt [] 0) h)
+
 module _ (n : ℕ) (list other : List ℕ) (same : map firstFour (entries n list) ≡ map firstFour (entries n other)) where
   uncoded-same : map uncoded (entries n list) ≡ map uncoded (entries n other)
   uncoded-same = sym (map-map (λ (ws : List ℕ). entryAt ws 0) firstFour (entries n list)) ∙ ap (map (λ (ws : List ℕ). entryAt ws 0)) same ∙ map-map (λ (ws : List ℕ). entryAt ws 0) firstFour (entries n other)
 
-  -- the entry i without its code
-  uncoded-at : (ws : List ℕ) (i : ℕ) → i < n → getD (map uncoded (entries n ws)) i (entryAt [] 0) ≡ uncoded (entryAt ws (width * i))
-  uncoded-at ws i h =
-      map-at uncoded (entries n ws) i (entryAt [] 0) (entryAt [] 0) (omega (arith, length-entries ws 0 n)) ∙ ap uncoded (entries-at ws n i (entryAt [] 0) h)
-
   rule-same : (contexts i : ℕ) → i < n → ruleAt contexts list i ≡ ruleAt contexts other i
   unfolding ruleAt
   rule-same contexts i h =
-      let e = sym (uncoded-at list i h) ∙ ap (λ (es : List Entry). getD es i (entryAt [] 0)) uncoded-same ∙ uncoded-at other i h in
+      let e = sym (uncoded-at n list i h) ∙ ap (λ (es : List Entry). getD es i (entryAt [] 0)) uncoded-same ∙ uncoded-at n other i h in
       rule-uncoded contexts (entryAt list (width * i)) ∙ ap (entryRule contexts) e ∙ sym (rule-uncoded contexts (entryAt other (width * i)))
 
   cell-same : (a b : ℕ) → cellIn a b (entries n list) ≡ cellIn a b (entries n other)

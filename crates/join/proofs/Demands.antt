@@ -3,32 +3,28 @@
 use mathlib.Core.Bool.{true}
 use mathlib.Core.List.{List, [], _∷_, map, map-map}
 use mathlib.Core.Logic.{_↔_}
-use mathlib.Core.Path.{_≡_, sym, ap, _∙_}
-use Prim.Native.Nat.{ℕ, _≤_, min}
-use lib.ListN.{length}
+use mathlib.Core.Path.{_≡_, ap, _∙_}
+use Prim.Native.Nat.{ℕ, _-_, _*_, _≤_, min}
+use lib.ListN.{length, drop, replicate}
 use Rattle.order.specs.Order.{_∈_, Distinct, Sorted}
 use Rattle.site.specs.Ratio.{below, reaches}
 use Rattle.site.specs.Measure.{inUse}
-use Rattle.site.specs.Site.{Site, Rising, Pair, sharedOf, unionOf, firstCodeOf, SmallestShared, Shares, sharing}
+use Rattle.site.specs.Site.{Site, Pair, sharedOf, unionOf, firstCodeOf, SmallestShared, Shares, sharing}
 use Rattle.site.specs.Site.{similarity, rankBefore, topOf, listOf}
 use Rattle.site.specs.Events.{ceilingOf, cutOff, found, events, met, trailBefore, trail as trailOf}
 use Rattle.site.proofs.Measures.{in-use-lawful}
-use Rattle.site.proofs.Meeting.{first-smallest}
+use Rattle.site.proofs.Contexts.{first-smallest}
 use Rattle.site.proofs.Best.{list-sorted, list-once, list-shares, list-count, list-best, list-all}
 use Rattle.site.proofs.Trail.{trail-sorted, trail-distinct, in-trail, trail-in, trail-list, off-trail}
 use Rattle.words.specs.Words.{padded}
 use Rattle.words.proofs.OneAnswer.{Says}
-use Rattle.tables.proofs.Sound.{sound-rises}
-use Rattle.entries.specs.Entries.{entryOf, firstFour, entries}
+use Rattle.entries.specs.Entries.{width, entryOf, firstFour, entries}
 use Rattle.entries.specs.declared.Entry.{Entry}
-use Rattle.entries.proofs.Listed.{entries-back}
 use Rattle.search.specs.Outcome.{Tells, zeros, threeCounts, listedWords, metWords}
-use Rattle.search.proofs.Answers.{tells-listed}
 use Rattle.join.specs.Join.{JoinCall, callSite, Joins}
 use Rattle.join.specs.Refusals.{CallCause}
+use Rattle.join.proofs.Accepted.{told-rises, told-found, told-counts, told-entries, told-behind}
 use Rattle.join.proofs.Causes.{refused-cause, cause-refused, none-accepted, refused-unchanged, refused-emptied}
-use Rattle.join.proofs.Checks.{call-accepted}
-use Rattle.join.proofs.Outcomes.{listed-only}
 use Rattle.join.proofs.Only.{callOf, join-says}
 use Rattle.join.proofs.join.Kinds as join-kinds
 use Rattle.join.proofs.join.Reads as join
@@ -61,23 +57,19 @@ callTrail c = trailOf inUse (callSite c) (c .k)
 abbrev pub firstFourOf : Site → Pair → List ℕ
 firstFourOf site p = p .lower ∷ p .higher ∷ sharedOf site p ∷ unionOf site p ∷ []
 
--- and in the fifth, which the tables fix, the first code that they share
+-- and in the fifth the first code that they share
 abbrev pub fifthOf : Site → Pair → ℕ
 fifthOf site p = firstCodeOf site p
 
 -- ---- demand 2: the list
 
 -- It is the first k of all pairs that share a code, in the order of exact similarity, then of the lower and of the higher context.
--- That is read over the first four words of the entries; the fifth takes no part in it.
+-- It is read over the first four words of each entry.
 pub record Demand-2 (c : JoinCall) (f : ℕ) : Type 0 where
-  -- its entries stand in the buffer, and zeros behind them; found counts them
-  pub held : c .list′ ≡ padded (length (c .list)) (listedWords (c .k) (callSite c))
+  -- found counts its entries, their first four words are those of the pairs listed, and behind them are zeros, to the end
   pub counted : f ≡ found inUse (callSite c) (c .k)
-  -- read entry by entry, the first four words are those of the pairs listed
   pub four : map firstFour (entries f (c .list′)) ≡ map (firstFourOf (callSite c)) (callList c)
-  -- and so is the fifth: the smallest code that both contexts have
-  pub fifth : map (λ e. e .code) (entries f (c .list′)) ≡ map (fifthOf (callSite c)) (callList c)
-  pub smallest : (p : Pair) → p ∈ callList c → SmallestShared (callSite c) p (fifthOf (callSite c) p)
+  pub behind : drop (width * f) (c .list′) ≡ replicate (length (c .list) - width * f) 0
   -- each pair listed shares a code, and none is listed twice
   pub shares : (p : Pair) → p ∈ callList c → Shares (callSite c) p
   pub once : Distinct (callList c)
@@ -88,6 +80,15 @@ pub record Demand-2 (c : JoinCall) (f : ℕ) : Type 0 where
   -- they are k, or all if there are fewer
   pub size : f ≡ min (c .k) (length (sharing (callSite c)))
   pub all : length (sharing (callSite c)) ≤ c .k → (p : Pair) → Shares (callSite c) p → p ∈ callList c
+
+-- The fifth word of each entry is fixed by the tables, and with it every word of the list.
+pub record FifthWords (c : JoinCall) (f : ℕ) : Type 0 where
+  -- the first code that the pair shares
+  pub fifth : map (λ e. e .code) (entries f (c .list′)) ≡ map (fifthOf (callSite c)) (callList c)
+  -- which is the smallest that both its contexts have
+  pub smallest : (p : Pair) → p ∈ callList c → SmallestShared (callSite c) p (fifthOf (callSite c) p)
+  -- so the list holds the entries, all their words, and zeros behind them
+  pub held : c .list′ ≡ padded (length (c .list)) (listedWords (c .k) (callSite c))
 
 -- ---- demand 3: the trail
 
@@ -116,52 +117,43 @@ module _ {c : JoinCall} (j : Joins c) where
   joins-1 = record {
     exactly = λ n p. (refused-cause j n p, cause-refused j n p);
     accepted = none-accepted j;
-    cleared = λ f e m t. let a = listed-only j (tells-listed (c .answer) t) in j .found (a .0) (a .1) .work-zero;
+    cleared = λ f e m t. told-found j t .work-zero;
     unchanged = refused-unchanged j;
     emptied = refused-emptied j;
   }
 
   module _ {f e m : ℕ} (t : Tells (c .answer) 0 (f ∷ e ∷ m ∷ [])) where
-    -- its site rises
-    R : Rising (callSite c)
-    R =
-        let fine = listed-only j (tells-listed (c .answer) t) .0 in
-        sound-rises (call-accepted (c .k) (c .offsets) (c .codes) (length (c .list)) (length (c .work)) fine .sound)
-
     pub joins-2 : Demand-2 c f
     joins-2 =
         let site = callSite c in
-        let a = listed-only j (tells-listed (c .answer) t) in
-        let w = j .found (a .0) (a .1) in
-        let told = sym (t .1) ∙ w .told .1 in
-        let n : f ≡ found inUse site (c .k) = cc told in
-        let back = entries-back site (callList c) (length (c .list)) n (w .list-holds) in
         record {
-          held = w .list-holds;
-          counted = n;
-          four = ap (map firstFour) back ∙ map-map firstFour (entryOf site) (callList c);
-          fifth = ap (map (λ (e : Entry). e .code)) back ∙ map-map (λ (e : Entry). e .code) (entryOf site) (callList c);
-          smallest = λ p i. first-smallest R p (list-shares inUse site (c .k) p i .some);
+          counted = told-counts j t .0;
+          four = ap (map firstFour) (told-entries j t) ∙ map-map firstFour (entryOf site) (callList c);
+          behind = told-behind j t;
           shares = list-shares inUse site (c .k);
           once = list-once inUse site (c .k);
           sorted = list-sorted inUse site (c .k);
           best = list-best inUse site (c .k);
-          size = n ∙ list-count inUse site (c .k);
+          size = told-counts j t .0 ∙ list-count inUse site (c .k);
           all = list-all inUse site (c .k);
+        }
+
+    pub joins-fifth : FifthWords c f
+    joins-fifth =
+        let site = callSite c in
+        record {
+          fifth = ap (map (λ (e : Entry). e .code)) (told-entries j t) ∙ map-map (λ (e : Entry). e .code) (entryOf site) (callList c);
+          smallest = λ p i. first-smallest (told-rises j t) p (list-shares inUse site (c .k) p i .some);
+          held = told-found j t .list-holds;
         }
 
     pub joins-3 : Demand-3 c e m
     joins-3 =
-        let site = callSite c in
-        let a = listed-only j (tells-listed (c .answer) t) in
-        let w = j .found (a .0) (a .1) in
-        let told = sym (t .1) ∙ w .told .1 in
-        let n : m ≡ met inUse site (c .k) = cc told in
-        let d : e ≡ events inUse site (c .k) = cc told in
+        let R = told-rises j t in
         record {
-          held = w .trail-holds;
-          counted = n;
-          done = d;
+          held = told-found j t .trail-holds;
+          counted = told-counts j t .2;
+          done = told-counts j t .1;
           named = λ p. (in-trail in-use-lawful R (c .k) p, λ s. trail-in in-use-lawful R (c .k) p (s .0) (s .1));
           once = trail-distinct in-use-lawful R (c .k);
           sorted = trail-sorted in-use-lawful R (c .k);
@@ -176,6 +168,9 @@ demand-1 κs a u x p = joins-1 (join-says κs a u x p)
 
 pub demand-2 : Says 5 join-kinds.ps join-kinds.r join.Post (λ κs a u x. (f e m : ℕ) → Tells u 0 (f ∷ e ∷ m ∷ []) → Demand-2 (callOf κs a u x) f)
 demand-2 κs a u x p f e m t = joins-2 (join-says κs a u x p) t
+
+pub fifth-words : Says 5 join-kinds.ps join-kinds.r join.Post (λ κs a u x. (f e m : ℕ) → Tells u 0 (f ∷ e ∷ m ∷ []) → FifthWords (callOf κs a u x) f)
+fifth-words κs a u x p f e m t = joins-fifth (join-says κs a u x p) t
 
 pub demand-3 : Says 5 join-kinds.ps join-kinds.r join.Post (λ κs a u x. (f e m : ℕ) → Tells u 0 (f ∷ e ∷ m ∷ []) → Demand-3 (callOf κs a u x) e m)
 demand-3 κs a u x p f e m t = joins-3 (join-says κs a u x p) t

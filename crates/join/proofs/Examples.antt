@@ -1,4 +1,4 @@
--- The worked examples P1 to P12 of document 01: one table of cases, and one claim about it.
+-- The worked examples P1 to P12 of document 01, with the fifth word of document 02: one table of cases, and one claim about it.
 -- A case is a call of the join with junk in its buffers; the claim is about every word that its contract tells, and about
 -- the ceilings of the pairs listed.
 use mathlib.Core.List.{List, [], _∷_, map}
@@ -89,11 +89,11 @@ abbrev pub workAfter : Answer → List ℕ → List ℕ
 workAfter (Listed f e m) work = zeros work
 workAfter (Refused n p) work = work
 
--- what the document tells
+-- what the documents tell
 unfoldable pub told : List ℕ → Case → Told
 told work c = record { outcome = outcome (c .answer) (padded (length junkList) (c .listed)) (workAfter (c .answer) work) (padded (length junkTrail) (c .met)); ceilings = c .ceilings }
 
--- for every work area that is long enough, each case is what the document tells
+-- for every work area that is long enough, each case is what the documents tell
 pub examples : (work : List ℕ) → 10240 ≤ length work → map (asked work) table ≡ map (told work) table
 unfolding asked told table case three junkList junkTrail joinOf searchOf callCheck roomsCheck tablesCheck sizesCheck earliest firstOf offsetRule endRule codeRule codeRuleBy member siteOf flat padded jaccard _over_ below lesser reaches keep kth sortBy insertBy _thenBy_ has upTo grid common shared firstCode union pairsOf sharing numbersBefore rankBefore ranked topOf ahead eventsIn eventBefore eventsOf later earlier ceilingOf trailBefore cutOf eventsReaching pairsReaching trail
 examples work h = rw (le-ltb (length work) 10240 h)

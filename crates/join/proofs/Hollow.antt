@@ -127,7 +127,7 @@ p9-words = record { k = omega arith; offsets = (omega arith, tt); codes = tt; li
 -- ---- the hollow versions
 
 module _ (f : Version) (meets : MeetsContract f) where
-  -- on a case of the table a version does what the document tells
+  -- on a case of the table a version does what the documents tell
   as-told : (c : Case) → InWords (given c) → asked area c ≡ told area c → f (given c) ≡ told area c .outcome
   unfolding asked
   as-told c w e = meets nowhere (given c) w ∙ ap (λ (t : Told). t .outcome) e

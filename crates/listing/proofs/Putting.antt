@@ -11,6 +11,8 @@ use Rattle.site.specs.Site.{listOf}
 use Rattle.words.specs.Words.{padded, zeroedFrom}
 use Rattle.entries.specs.Entries.{entries}
 use Rattle.entries.proofs.Listed.{entries-back}
+use Rattle.words.proofs.Words.{padded-front}
+use Rattle.search.specs.Outcome.{listedWords}
 use Rattle.pen.specs.declared.Pen.{Pen}
 use Rattle.sheet.specs.Read.{Read, value, refused, _then_}
 use Rattle.sheet.specs.Reading.{readSheet}
@@ -57,8 +59,6 @@ module _ {bs old now : List ℕ} {r : Penned} (w : Added bs old now (frontPen ol
 pub text-full : {bs old now : List ℕ} {r : Penned} (cs : List ℕ) → Added bs old now (frontPen old) r → r ≡ Full → PutText (bs ++ cs) old now (listing.Refused 12 0)
 text-full cs w e = put-full (added-stop w cs e) e
 
--- ---- what the join told
-
 -- ---- the listing of a sheet
 
 module _ (sheet : List ℕ) (room : ℕ) where
@@ -85,7 +85,7 @@ module _ (sheet : List ℕ) (room : ℕ) where
     put-counts {k} {f} {e} {m} q {now} {r} w =
         let c = counted _ (sym (t .answer) ∙ q) in
         let s = c .sheet in
-        let b = entries-back (s .site) (listOf inUse (s .site) (s .k)) listRoom (c .found) (t .held s (c .is)) in
+        let b = entries-back (s .site) (listOf inUse (s .site) (s .k)) list (c .found) (rw (t .held s (c .is)) (padded-front listRoom (listedWords (s .k) (s .site)))) in
         let x : listingLines k f e m (entries f list) ≡ listingText (s .k) (s .site) = λ i. listingLines (c .asked i) (c .found i) (c .events i) (c .met i) (b i) in
         rw (listed-is, c .is) (subst (λ (l : List ℕ). Put (fitted room l) now r) x w)
 

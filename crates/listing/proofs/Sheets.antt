@@ -1,12 +1,12 @@
 -- What was read: the tables that the reader leaves are those of the sheet's site, and the parts that are lent to the join are whole.
 use mathlib.Core.List.{List}
 use mathlib.Core.Path.{_≡_, refl, sym, ap₂, _∙_}
-use Prim.Native.Nat.{ℕ, _+_, _-_, _≤_}
+use Prim.Native.Nat.{ℕ, _+_, _≤_}
 use native.Mathlib.Omega.{arith}
-use lib.ListN.{length, take, replicate}
-use lib.Seq.{take-append-seam}
+use lib.ListN.{length, take}
 use Rattle.site.specs.Tables.{offsetsOf, allCodes}
 use Rattle.words.specs.Words.{padded}
+use Rattle.words.proofs.Words.{padded-front}
 use Rattle.sheet.specs.Read.{Read, value, refused, _then_}
 use Rattle.sheet.specs.Reading.{Sheet, readSheet}
 use Rattle.sheet.proofs.Accepted.{read-fits}
@@ -19,11 +19,6 @@ use Rattle.listing.specs.Inside.{SheetJoined, TablesJoined}
 use Rattle.listing.specs.declared.Joined.{Joined}
 use Rattle.listing.specs.declared.Joined.the-variants as told
 use Rattle.listing.proofs.Joining.{told-refused}
-
--- the front of a buffer that holds some words
-pub padded-front : (n : ℕ) (ws : List ℕ) → take (length ws) (padded n ws) ≡ ws
-unfolding padded
-padded-front n ws = take-append-seam ws (replicate (n - length ws) 0)
 
 -- an answer that refuses
 pub read-refused : (x : Read Sheet) {n p : ℕ} → readingOf x ≡ reading.Refused n p → x ≡ refused n p

@@ -6,20 +6,20 @@ use mathlib.Core.Path.{_≡_, refl, ap, subst}
 use Prim.Native.Nat.{ℕ, suc, _+_, _*_, _/_, _≤_, _<_}
 use native.Mathlib.Nat.{le-of-eq, mul-suc}
 use native.Mathlib.Omega.{arith}
-use lib.ListN.{length, getD, length-append}
+use lib.ListN.{length, length-append}
 use borrow.Author.Tests.{lt-ltb, le-ltb}
 use Rattle.order.specs.Order.{_∈_}
 use Rattle.site.specs.Measure.{inUse}
-use Rattle.site.specs.Site.{Site, Rising, Pair, Shares, sizeOf, codesOf, has, union, firstCodeOf, listOf}
-use Rattle.site.specs.Events.{ahead, found, events, met}
+use Rattle.site.specs.Site.{Site, Rising, Pair, Shares, sizeOf, codesOf, union, firstCodeOf, listOf}
+use Rattle.site.specs.Events.{found, events, met}
 use Rattle.site.specs.Tables.{siteOf, offsetsOf, allCodes}
-use Rattle.site.proofs.Contexts.{first-bound, first-at}
+use Rattle.site.proofs.Contexts.{first-bound}
 use Rattle.site.proofs.Best.{list-shares}
 use Rattle.words.specs.Words.{flat}
 use Rattle.words.proofs.Split.{by-le}
 use Rattle.tables.proofs.Cuts.{site-back}
-use Rattle.tables.proofs.Sound.{contexts-are, size-small, place-small, sound-rises}
-use Rattle.entries.specs.Entries.{words, entryOf}
+use Rattle.tables.proofs.Sound.{contexts-are, size-small, first-small, sound-rises}
+use Rattle.entries.specs.Entries.{width, words, entryOf}
 use Rattle.sheet.specs.Read.{value}
 use Rattle.sheet.specs.Number.{digitsOf}
 use Rattle.sheet.specs.Text.{kKey, codesText, lineText}
@@ -82,18 +82,9 @@ module _ {s : Sheet} (p : Passed s) where
       let z : sizeOf tables i ≡ sizeOf (s .site) i = ap (λ (z : Site). sizeOf z i) b in
       omega (arith, z, size-small (p .sound) i (omega (arith, l, contexts-are (p .sound))))
 
-  -- none of them above 4,095
+  -- the first shared code of a pair is at most 4,095
   code-few : (q : Pair) → Shares (s .site) q → firstCodeOf (s .site) q < 4096
-  code-few q h =
-      let b = site-back [] (s .site) in
-      let xs = codesOf (s .site) (q .lower) in
-      let ys = codesOf (s .site) (q .higher) in
-      let n = ahead (has ys) xs in
-      let l : length tables ≡ length (s .site) = ap (λ (z : Site). length z) b in
-      let w : sizeOf tables (q .lower) ≡ length xs = ap (λ (z : Site). sizeOf z (q .lower)) b in
-      let z : getD (codesOf tables (q .lower)) n 0 ≡ getD xs n 0 = ap (λ (z : Site). getD (codesOf z (q .lower)) n 0) b in
-      let c = place-small (p .sound) (q .lower) n (omega (arith, l, contexts-are (p .sound), h .rising, h .inside)) (omega (arith, w, first-bound xs ys, h .some)) in
-      omega (arith, z, first-at xs ys (h .some), c)
+  code-few = subst (λ (z : Site). (q : Pair) → Shares z q → firstCodeOf z q < 4096) (site-back [] (s .site)) (first-small (p .sound))
 
   -- so an entry's numbers have at most four digits
   entry-digits : (q : Pair) → Shares (s .site) q → Digits 4 (words (entryOf (s .site) q))
@@ -105,8 +96,11 @@ module _ {s : Sheet} (p : Passed s) where
       let c = first-bound (codesOf (s .site) (q .lower)) (codesOf (s .site) (q .higher)) in
       (few _ (omega (arith, h .rising, h .inside, contexts-few)), (few _ (omega (arith, h .inside, contexts-few)), (few _ (omega arith), (few _ (omega arith), (few _ (omega (arith, code-few q h)), tt)))))
 
-  -- 31 bytes a pair
-  pairs-short : (qs : List Pair) → ((q : Pair) → q ∈ qs → Shares (s .site) q) → length (entriesText (map (entryOf (s .site)) qs)) ≤ 31 * length qs
+  -- a pair's line: its key, five bytes a number, and its end
+  abbrev row : ℕ
+  row = length pairKey + 5 * width + 1
+
+  pairs-short : (qs : List Pair) → ((q : Pair) → q ∈ qs → Shares (s .site) q) → length (entriesText (map (entryOf (s .site)) qs)) ≤ row * length qs
   unfolding entriesText flat entryText
   pairs-short [] h = omega arith
   pairs-short (q ∷ qs) h =

@@ -7,12 +7,11 @@ use Prim.Native.Nat.{ℕ, zero, suc, _+_, _*_, _/_, _%_, _^_, _<_}
 use native.Mathlib.Omega.{arith}
 use lib.Bits.{bitOr}
 use lib.Dec.{eqb}
-use lib.ListN.{length, getD, set, replicate}
+use lib.ListN.{length, set, replicate}
 use borrow.Author.Tests.{eq-eqb, ne-eqb}
 use Rattle.order.specs.Order.{_∈_, keep}
 use Rattle.order.proofs.Lists.{cases, never}
-use Rattle.site.specs.Site.{has, common, shared, upTo}
-use Rattle.site.specs.Events.{ahead}
+use Rattle.site.specs.Site.{has, common, shared, firstCode, upTo}
 use Rattle.site.proofs.Contexts.{has-in}
 use Rattle.site.proofs.Rows.{row-length, row-at, row-zeros, row-set}
 use Rattle.words.proofs.Split.{by-eq}
@@ -96,8 +95,8 @@ marked-shared xs (y ∷ ys) h =
     (λ f. rw f (omega (arith, more, b ∙ ap bit f)))
 
 -- and counted from code x on they are those, if x is the first that both have
-pub marked-first : (xs ys : List ℕ) (x : ℕ) → HaveMarks ys → markedFrom (marksOf codeWords xs) x ys ≡ cond (eqb (getD ys (ahead (has xs) ys) 0) x) (shared ys xs) 0
-unfolding markedFrom ahead shared common keep
+pub marked-first : (xs ys : List ℕ) (x : ℕ) → HaveMarks ys → markedFrom (marksOf codeWords xs) x ys ≡ cond (eqb (firstCode ys xs) x) (shared ys xs) 0
+unfolding markedFrom firstCode shared common keep
 marked-first xs [] x h = cases (eqb 0 x) (λ t. rw t) (λ f. rw f)
 marked-first xs (y ∷ ys) x h =
     let b = mark-tells codeWords xs y (h y (here refl)) in

@@ -143,7 +143,7 @@ fn ordered(a: Context, b: Context) -> TwoContexts
     }
 }
 
-// The entry of two contexts that share so many codes, this one first.
+// The entry of two contexts: they share so many codes, and the first of these is `code`.
 fn entry_of(offsets: &[u16], codes: &[u16], c: Context, d: Context, shared: u16, code: u16) -> Entry
     requires { ⌜ Sound (now offsets) (now codes) ⌝ }
     requires { ⌜ (c .0 + 1 < length (now offsets)) × (d .0 + 1 < length (now offsets)) ⌝ }

@@ -12,8 +12,10 @@ use borrow.Author.Tests.{ne-eqb, lt-ltb, le-ltb}
 use Rattle.words.proofs.Split.{by-le}
 use Rattle.words.proofs.Lists.{slice-is}
 use Rattle.order.specs.Order.{Sorted}
-use Rattle.site.specs.Site.{Rising, codesOf, sizeOf}
+use Rattle.site.specs.Site.{Rising, codesOf, sizeOf, has, Pair, Shares, firstCodeOf}
+use Rattle.site.specs.Events.{ahead}
 use Rattle.site.specs.Tables.{siteOf}
+use Rattle.site.proofs.Contexts.{first-bound, first-at}
 use Rattle.site.proofs.Tables.{site-length, site-codes, site-rises, slice-at}
 use Rattle.tables.specs.Rules.{codeRule, codeRuleBy}
 use Rattle.tables.specs.Sound.{Sound}
@@ -80,5 +82,13 @@ module _ {os cs : List ℕ} (s : Sound os cs) where
       rw (context-codes i h, slice-at (getD os i 0) (getD os (i + 1) 0) cs n l) (code-small (getD os i 0 + n) (omega (arith, offset-within (i + 1) h)))
 
   -- two contexts can be walked
+  -- the first shared code of a pair is at most 4,095
+  pub first-small : (q : Pair) → Shares (siteOf os cs) q → firstCodeOf (siteOf os cs) q < 4096
+  first-small q h =
+      let xs = codesOf (siteOf os cs) (q .lower) in
+      let ys = codesOf (siteOf os cs) (q .higher) in
+      let c = place-small (q .lower) (ahead (has ys) xs) (omega (arith, contexts-are, h .rising, h .inside)) (omega (arith, first-bound xs ys, h .some)) in
+      omega (arith, first-at xs ys, c)
+
   pub two-parts : {xs ys : List ℕ} (i j : ℕ) → i + 1 < length os → j + 1 < length os → xs ≡ codesOf (siteOf os cs) i → ys ≡ codesOf (siteOf os cs) j → (Sorted ltb xs × Sorted ltb ys) × ((length xs ≤ 4096) × (length ys ≤ 4096))
   two-parts i j h k e f = rw (e, f) ((sound-rises .rises i, sound-rises .rises j), (size-small i h, size-small j k))

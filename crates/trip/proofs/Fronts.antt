@@ -4,8 +4,8 @@ use mathlib.Core.List.{List, []}
 use Prim.Native.Nat.{ℕ, _+_, _-_}
 use native.Mathlib.Omega.{arith}
 use lib.ListN.{length, take}
-use lib.Seq.{take-append-seam}
 use Rattle.words.specs.Words.{padded}
+use Rattle.words.proofs.Words.{padded-front}
 use Rattle.site.specs.Tables.{siteOf, offsetsOf, allCodes}
 use Rattle.sheet.specs.Read.{Read, value, refused}
 use Rattle.sheet.specs.Text.{sheetText}
@@ -17,11 +17,6 @@ use Rattle.tables.specs.Sound.{Sound}
 use Rattle.reader.specs.declared.Reading.the-variants as reading
 use Rattle.reader.specs.Answers.{readingOf, offsetsBy, codesBy}
 use Rattle.writer.proofs.Sheets.{one-less}
-
--- words with zeros behind them begin with the words
-pub front-of : (n : ℕ) (ws : List ℕ) → take (length ws) (padded n ws) ≡ ws
-unfolding padded
-front-of n ws = take-append-seam ws _
 
 -- an accepted sheet is one that was read, with its three numbers
 pub sheet-read : (x : Read Sheet) {k n m : ℕ} → reading.Sheet k n m ≡ readingOf x
@@ -36,7 +31,7 @@ pub fronts : (lo lc : ℕ) (x : Read Sheet) (s : Sheet) {o c : List ℕ} → x �
 unfolding offsetsBy codesBy
 fronts lo lc x s e f g =
     let l : length (s .site) + 1 ≡ length (offsetsOf (s .site)) = omega (arith, offsets-length 0 (s .site)) in
-    (rw (f, e, l) (front-of lo (offsetsOf (s .site))), rw (g, e) (front-of lc (allCodes (s .site))))
+    (rw (f, e, l) (padded-front lo (offsetsOf (s .site))), rw (g, e) (padded-front lc (allCodes (s .site))))
 
 -- whose text is the sheet
 pub text-of : (lo lc : ℕ) (sheet : List ℕ) (s : Sheet) (o c : List ℕ) → readSheet lo lc sheet ≡ value s → (take (length (s .site) + 1) o ≡ offsetsOf (s .site)) × (take (length (allCodes (s .site))) c ≡ allCodes (s .site))

@@ -4,6 +4,7 @@ use mathlib.Core.List.{List, [], _∷_}
 use Prim.Native.Nat.{ℕ, _+_, _-_, _≤_}
 use lib.ListN.{length, take}
 use Rattle.words.specs.Words.{padded}
+use Rattle.words.proofs.Words.{padded-front}
 use Rattle.site.specs.Tables.{siteOf}
 use Rattle.sheet.specs.Read.{value}
 use Rattle.sheet.specs.Text.{sheetText}
@@ -20,7 +21,7 @@ use Rattle.writer.specs.declared.Writing.{Writing}
 use Rattle.writer.specs.Writes.{WritingTells}
 use Rattle.writer.specs.Calls.{Writes}
 use Rattle.writer.proofs.Answers.{told-written, accepted-written}
-use Rattle.trip.proofs.Fronts.{front-of, sheet-read, fronts, text-of, tables-again}
+use Rattle.trip.proofs.Fronts.{sheet-read, fronts, text-of, tables-again}
 use Rattle.trip.proofs.Fitting.{written-fits}
 
 -- A sheet that is read, and whose tables break no rule, is written back byte for byte where the text has room:
@@ -45,7 +46,7 @@ pub tables-trip : {k : ℕ} {os cs text : List ℕ} {w : Writing} {n : ℕ} {t o
 tables-trip {k} {os} {cs} {text} {w} {n} {t} {offsets} {codes} W told R h g =
     let f = told-written W told in
     let A = accepted k os cs (fine-exactly k os cs .1 (f .0)) in
-    let tx : take n t ≡ sheetText k (siteOf os cs) = rw (f .2, f .1) (front-of (length text) (sheetText k (siteOf os cs))) in
+    let tx : take n t ≡ sheetText k (siteOf os cs) = rw (f .2, f .1) (padded-front (length text) (sheetText k (siteOf os cs))) in
     let e : readSheet (length offsets) (length codes) (take n t) ≡ value (record { k = k; site = siteOf os cs }) = rw tx (reads-back (written-fits A (length offsets) (length codes) h g)) in
     let b = tables-again (A .sound) (readSheet (length offsets) (length codes) (take n t)) e in
     (sheet-tells (reads-answer R ∙ b .0), R .offsets-are ∙ rw (b .1), R .codes-are ∙ rw (b .2))

@@ -5,7 +5,7 @@ use Prim.Native.Nat.{ℕ, zero, suc, _+_, _-_, _*_, _≤_, _<_}
 use native.Mathlib.Nat.{not-suc-le-zero, le-of-suc-le-suc, sub-zero, add-comm, mul-suc}
 use native.Mathlib.Omega.{arith}
 use lib.ListN.{length, getD, set, take, drop, replicate, length-append, length-replicate, length-set, List·getD-append, List·getD-eq-default}
-use lib.Seq.{getD-append-add, drop-append-add, take-at, set-append-left, set-append-seam, append-snoc}
+use lib.Seq.{getD-append-add, drop-append-add, take-at, take-append-seam, set-append-left, set-append-seam, append-snoc}
 use Rattle.words.specs.Words.{flat, padded, Holds, Begins}
 use Rattle.words.proofs.Lists.{drop-replicate, two-sets}
 use Rattle.words.proofs.Split.{by-le}
@@ -87,6 +87,11 @@ unfolding padded
 padded-none n = rw sub-zero
 
 -- ---- a buffer that begins with some words
+
+-- as one does that holds them
+pub padded-front : (n : ℕ) (ws : List ℕ) → Begins (padded n ws) ws
+unfolding padded
+padded-front n ws = take-append-seam ws _
 
 module _ (buffer ws : List ℕ) {i : ℕ} (e : i ≡ length ws) (h : Begins buffer ws) where
   front : take i buffer ≡ ws
