@@ -481,8 +481,10 @@ class Streams(unittest.TestCase):
             self.assertEqual(run.stdout, plain(b"k=1\ncontexts=1\nc=4\n"))
 
     def test_interrupt(self):
+        """Also where the gate runs behind a shell's `&`, which has interrupts ignored."""
         pipes = {name: subprocess.PIPE for name in ("stdin", "stdout", "stderr")}
-        with subprocess.Popen([sys.executable, SCRIPT], **pipes) as waiting:
+        heard = lambda: signal.signal(signal.SIGINT, signal.SIG_DFL)
+        with subprocess.Popen([sys.executable, SCRIPT], preexec_fn=heard, **pipes) as waiting:
             time.sleep(1.5)
             waiting.send_signal(signal.SIGINT)
             self.assertEqual((waiting.stdout.read(), waiting.stderr.read()), (b"", b""))
