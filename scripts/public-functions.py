@@ -153,18 +153,24 @@ def meant(names, word):
     return re.fullmatch(r"Rattle.words(?:·proofs\.proofs|\.proofs)\.OneAnswer", names.get(word, "")) is not None
 
 
-def own(modules, fn, kinds, post):
-    """The two names are those of the modules that the kit makes for fn."""
-    return modules.get(kinds) == f"{fn}.Kinds" and modules.get(post) == f"{fn}.Reads"
+def path_of(source, fn):
+    """Where the kit puts what it makes for fn: below the modules of its source file, whose path is taken from src/ on."""
+    modules = source.with_suffix("").parts
+    return ".".join((*modules, fn) if modules not in (("lib",), ("main",)) else (fn,))
 
 
-def written_out(crate, module, fn):
-    """A file of proofs/ that writes the contract of fn out as `Post`, and ties it to the clauses in the code."""
+def own(modules, path, kinds, post):
+    """The two names are those of the modules that the kit makes for the function at that path."""
+    return modules.get(kinds) == f"{path}.Kinds" and modules.get(post) == f"{path}.Reads"
+
+
+def written_out(crate, module, path):
+    """A file of proofs/ that writes the contract of a function out as `Post`, and ties it to the clauses in the code."""
     file = crate / "proofs" / f"{module}.antt"
     if not file.is_file():
         return False
     text = " ".join(plain(file.read_text(encoding="utf-8")).split())
-    alias = re.search(rf"use Rattle·\w+·proofs\.proofs\.{fn} as (\S+)", text)
+    alias = re.search(rf"use Rattle·\w+·proofs\.proofs\.{re.escape(path)} as (\S+)", text)
     tie = r"pub post-is : .* → {}\.clauses 𝓤 H A mem run κs a \.ensures tt u x ≡ fact 𝓤 \(Post κs a u x\) post-is"
     return alias is not None and re.search(tie.format(re.escape(alias.group(1))), text) is not None
 
@@ -184,29 +190,30 @@ def view_problems(seen, names, parameters, has_result):
     return problems
 
 
-def only_problems(crate, fn, statement, modules, names, parameters, has_result):
-    """What is wrong with a statement that no second answer meets the contract of fn."""
+def only_problems(crate, path, statement, modules, names, parameters, has_result):
+    """What is wrong with a statement that no second answer meets the contract of the function at that path."""
     form = r"OneAnswer \d+ (\S+)\.ps \1\.r (\S+)\.Post (?:\{B = [^{}]*\} )?\(λ κs u x\. (.*)\)"
     said = re.fullmatch(form, statement)
-    if said and meant(names, "OneAnswer") and own(modules, fn, said.group(1), said.group(2)):
+    if said and meant(names, "OneAnswer") and own(modules, path, said.group(1), said.group(2)):
         return view_problems(said.group(3), names, parameters, has_result)
     # a contract that the kit does not read is written out
     form = r"\(κs : [^()]*\) \(a : [^()]*\) \(u v : [^()]*\) \(x y : [^()]*\) → (\S+)\.Post κs a u x → \1\.Post κs a v y → _≡_ \{A = [^{}]*\} \((.*?)\) \((.*)\)"
     said = re.fullmatch(form, statement)
-    if said and written_out(crate, modules.get(said.group(1), ""), fn):
+    if said and written_out(crate, modules.get(said.group(1), ""), path):
         other = re.sub(r"\bu\b", "v", re.sub(r"\bx\b", "y", said.group(2)))
         if other == said.group(3):
             return view_problems(said.group(2), names, parameters, has_result)
-    return [f"`{fn.replace('_', '-')}-only` is no `OneAnswer` over the `Post` of {fn}"]
+    fn = path.split(".")[-1]
+    return [f"`{fn.replace('_', '-')}-only` is no `OneAnswer` over the `Post` of {path}"]
 
 
-def says_problems(fn, stated, modules, names):
+def says_problems(path, stated, modules, names):
     """An entry point whose contract other theorems use has a theorem of what it says."""
-    name = fn.replace("_", "-") + "-says"
+    name = path.split(".")[-1].replace("_", "-") + "-says"
     said = re.fullmatch(r"Says \d+ (\S+)\.ps \1\.r (\S+)\.Post \(λ κs a u x\. .*\)", stated.get(name, ""))
-    if said and meant(names, "Says") and own(modules, fn, said.group(1), said.group(2)):
+    if said and meant(names, "Says") and own(modules, path, said.group(1), said.group(2)):
         return []
-    return [f"there is no `{name}`, a `Says` over the `Post` of {fn}"]
+    return [f"there is no `{name}`, a `Says` over the `Post` of {path}"]
 
 
 def main(arguments):
@@ -223,6 +230,7 @@ def main(arguments):
                 count += 1
                 name = found.group(1)
                 full = f"{crate.name}::{name}"
+                path = path_of(file.relative_to(crate / "src"), name)
                 line = text.count("\n", 0, found.start()) + 1
                 parameters, has_result, clauses = header(text, found.end())
                 problems = contract_problems(parameters, has_result, clauses["ensures"])
@@ -231,12 +239,12 @@ def main(arguments):
                     if clauses["requires"]:
                         problems.append("an entry point has a `requires`")
                     if crate.name != "probe":
-                        problems += says_problems(name, proved, modules, names)
+                        problems += says_problems(path, proved, modules, names)
                 only = name.replace("_", "-") + "-only"
                 unused.discard(full)
                 if only in proved:
                     note = only
-                    problems += only_problems(crate, name, proved[only], modules, names, parameters, has_result)
+                    problems += only_problems(crate, path, proved[only], modules, names, parameters, has_result)
                 elif full in excused:
                     note = "excepted"
                     if not excused[full]:

@@ -4,3 +4,5 @@ pub mod Refusing
 pub mod Mapping
 -- the three demands and the heat map, each of the contract of its call: read this first
 pub mod Demands
+-- the shared count by two fingers is that of every list, and of the search's marks
+pub mod Counts

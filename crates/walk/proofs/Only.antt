@@ -4,8 +4,8 @@ use mathlib.Core.Path.{sym, _∙_}
 use Rattle.words.proofs.OneAnswer.{OneAnswer}
 use Rattle.walk.proofs.meet.Kinds as meet-kinds
 use Rattle.walk.proofs.meet.Reads as meet
-use Rattle.walk.proofs.shared_count.Kinds as shared-count-kinds
-use Rattle.walk.proofs.shared_count.Reads as shared-count
+use Rattle.walk.proofs.two_fingers.shared_count.Kinds as shared-count-kinds
+use Rattle.walk.proofs.two_fingers.shared_count.Reads as shared-count
 use Rattle.walk.proofs.union_count.Kinds as union-count-kinds
 use Rattle.walk.proofs.union_count.Reads as union-count
 use Rattle.walk.proofs.below.Kinds as below-kinds
