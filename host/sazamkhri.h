@@ -32,9 +32,9 @@ extern "C" {
 
 /* The version of header and library. */
 #define SAZAMKHRI_VERSION_MAJOR 2
-#define SAZAMKHRI_VERSION_MINOR 0
+#define SAZAMKHRI_VERSION_MINOR 1
 #define SAZAMKHRI_VERSION_PATCH 0
-#define SAZAMKHRI_VERSION "2.0.0"
+#define SAZAMKHRI_VERSION "2.1.0"
 
 /* The most bytes of a sheet. A longer one is refused with 11, before all else. */
 #define SAZAMKHRI_SHEET_LIMIT 24576

@@ -1,7 +1,7 @@
 #!/usr/bin/env python3
 """Runs the commands of a page from the project's root, and compares what they print.
 
-    scripts/check-lesson.py [PAGE..]        no PAGE: docs/LESSON.md and docs/CATALOGUES.md
+    scripts/check-lesson.py [PAGE..]        no PAGE: docs/LESSON.md, docs/CATALOGUES.md and docs/TWO-FINGERS.md
 
 Each block marked `sh` is followed by a block marked `text` with its standard output, byte for byte (nothing
 for a block that prints nothing). A block stops at the first command that fails, also inside a pipe, and its
@@ -17,7 +17,7 @@ import sys
 from pathlib import Path
 
 ROOT = Path(__file__).resolve().parent.parent
-PAGES = (ROOT / "docs" / "LESSON.md", ROOT / "docs" / "CATALOGUES.md")
+PAGES = tuple(ROOT / "docs" / name for name in ("LESSON.md", "CATALOGUES.md", "TWO-FINGERS.md"))
 COMMANDS = re.compile(rb"^```sh\n(.*?)^```$", re.M | re.S)
 OUTPUT = re.compile(rb"\s*^```text\n(.*?)^```$", re.M | re.S)
 

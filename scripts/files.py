@@ -43,7 +43,7 @@ def text_of(file, most):
 
 def put(text):
     """Writes a text to standard output, without a buffer that could fail after the last line of this script."""
-    rest = text.encode("ascii")
+    rest = text.encode("utf-8")
     try:
         while rest:
             rest = rest[os.write(1, rest) :]

@@ -26,7 +26,7 @@ step "cells of the heat map against the independent ones" scripts/trials.sh cell
 step "listing and host call against the independent ones" scripts/trials.sh host
 step "program against the independent listing" scripts/trials.sh program "$PWD/target/bin/sazamkhri"
 step "stored sheets give stored listings" scripts/check-examples.sh target/bin/sazamkhri examples examples/refused
-step "the lesson and the catalogue's page print what they say" python3 scripts/check-lesson.py
+step "the lesson and the pages beside it print what they say" python3 scripts/check-lesson.py
 step "host program in C, plain and under the sanitizers" host/test.sh
 step "the host's checks notice mistakes" host/try.sh
 for test in tests/scripts/test_*.py; do

@@ -129,6 +129,8 @@ def damages(root):
         yield what, "check-figures.py", where, swapped(old, new)
     theorem = "pub trail-met :"
     yield from (
+        ("a theorem over a function of the same name elsewhere in the crate", "public-functions.py",
+         "crates/walk/proofs/Only.antt", swapped("proofs.two_fingers.shared_count.Reads", "proofs.shared_count.Reads")),
         ("a contract written out that is not tied to the code", "public-functions.py",
          "crates/pen/proofs/LineContract.antt", swapped("pub post-is :", "pub post-was :")),
         ("a promise kept by a theorem in a comment", "check-promises.py",

@@ -662,7 +662,7 @@ class CheckLesson(Case):
         self.refused(run("check-lesson.py", "no page"), 2, "no page: cannot be read")
 
     def test_default_pages(self):
-        """A copy of the script takes the pages of its own root: the lesson and the catalogues, which must be there."""
+        """A copy of the script takes the pages of its own root: the lesson, the catalogues and the two fingers, which must be there."""
         (self.folder / "docs").mkdir()
         (self.folder / "scripts").mkdir()
         copy = shutil.copy(SCRIPTS / "check-lesson.py", self.folder / "scripts")
@@ -670,8 +670,11 @@ class CheckLesson(Case):
         for name, page, status in (
             (None, None, 2),
             ("LESSON.md", good, 2),
-            ("CATALOGUES.md", bad, 1),
+            ("CATALOGUES.md", bad, 2),
+            ("TWO-FINGERS.md", good, 1),
             ("CATALOGUES.md", good, 0),
+            ("TWO-FINGERS.md", bad, 1),
+            ("TWO-FINGERS.md", good, 0),
             ("LESSON.md", bad, 1),
         ):
             if name:

@@ -205,6 +205,21 @@ fn pairs() {
     say_pair(b"last_codes_meet", &[0, 3, 5], &[1, 3, 4095, 2, 4095]);
 }
 
+// The rows of docs/TWO-FINGERS.md, and other walks of two fingers.
+fn walks() {
+    say_pair(b"walk_of_the_page", &[0, 4, 8], &[2, 3, 5, 8, 3, 4, 5, 9]);
+    say_pair(
+        b"graves_6_and_9",
+        &[0, 5, 10],
+        &[103, 105, 201, 401, 509, 103, 105, 401, 503, 509],
+    );
+    say_pair(b"one_in_the_other", &[0, 2, 7], &[2, 4, 1, 2, 3, 4, 5]);
+    say_pair(b"in_turns", &[0, 3, 6], &[0, 2, 4, 1, 3, 5]);
+    let mut long = [0; 4096];
+    count_up(&mut long);
+    say_pair(b"2048_codes_each", &[0, 2048, 4096], &long);
+}
+
 fn orders() {
     say_below(b"99/100_and_100/101", 99, 100, 100, 101);
     say_below(b"1/2_and_2/4", 1, 2, 2, 4);
@@ -253,6 +268,7 @@ fn main() {
     offsets();
     codes();
     pairs();
+    walks();
     orders();
     lists();
 }
