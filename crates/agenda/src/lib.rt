@@ -3,6 +3,9 @@
 // stand 257 words with what is left of each context, and 257 with its size: together the ceiling of its next place, 0/1 for none; 512
 // words with the nodes of the tournament, of which the top has the context that comes next; 4,097 words that say where each code's
 // bucket starts; and the buckets, a word for each place of the code, with the context of each event done there.
+
+#![tactic(auto)]
+
 ghost use Rattle.std.specs.Prelude.{◌≡◌, ◌+◌, ◌-◌, ◌/◌, ◌≤◌, ◌<◌, length, get_or, set, replicate};
 ghost use Rattle.std.proofs.Math.ListN.{get_elem?};
 ghost use Rattle.site.specs.Events.{Occurs, code_at};
@@ -42,21 +45,21 @@ const ENDS: usize = 1027;
 const BUCKETS: usize = 5123;
 
 // The next event, by its context and its place, or that all are done.
-#[derive(Drop)]
+#[derive(Clone, Copy)]
 pub enum Next {
     At(Context, Place),
     Over,
 }
 
 // An event done at some code, by its context, or that there are no more.
-#[derive(Drop)]
+#[derive(Clone, Copy)]
 pub enum Posted {
     At(Context),
     Over,
 }
 
 // A word of the tournament, with the ceiling of its context's next place; 0 has none.
-#[derive(Drop)]
+#[derive(Clone, Copy)]
 struct Contender {
     word: u16,
     left: Fraction,

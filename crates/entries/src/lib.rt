@@ -1,5 +1,8 @@
 // The list buffer: entries, the most alike first, flat in a slice of words, and zeros behind them.
 // Entries are compared by their similarities and then by their numbers; an insertion keeps the best k.
+
+#![tactic(auto)]
+
 ghost use Rattle.std.specs.Prelude.{◌≡◌, ◌++◌, ◌+◌, ◌-◌, ◌*◌, ◌≤◌, ◌<◌, min, length, take, drop};
 ghost use Rattle.order.specs.Order.{kth};
 ghost use Rattle.site.specs.Site.{numbers_before};
@@ -14,7 +17,7 @@ use walk::{Fraction, below};
 pub const WIDTH: usize = 5;
 
 // A pair on the list: its two contexts, how many codes they share, how many they have in all, and the first code that they share.
-#[derive(Drop)]
+#[derive(Clone, Copy)]
 pub struct Entry {
     pub lower: Context,
     pub higher: Context,

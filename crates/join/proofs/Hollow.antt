@@ -8,6 +8,7 @@ use native.Mathlib.Nat.{le_of_eq}
 use native.Mathlib.Omega.{arith}
 use lib.ListN.{length, get_or, replicate, length-replicate}
 use contract.Lifetimes.{Lfts}
+use denote.MutBor.{MutBor}
 use denote.Ref.{Bor}
 use denote.Triple.Clauses.{AtExit}
 use borrow.Fn.Kinds.{Dens, ended_of}
@@ -53,12 +54,16 @@ Version = Given → Outcome
 abbrev lent : List ℕ → Bor (List ℕ)
 lent ws = record { ref_ptr = (0, 0); now = ws }
 
+-- and lent to be written, under whatever name
+abbrev lent_mut : List ℕ → MutBor (List ℕ)
+lent_mut ws = record { ref_ptr = (0, 0); ghost_name = 0; now = ws }
+
 -- the arguments of its call, and the parameters at exit
 abbrev pub args_of : (κs : Lfts 5) → Given → Dens κs join_kinds.ps
-args_of κs i = (i.k, (lent i.offsets, (lent i.codes, (lent i.list, (lent i.work, (lent i.trail, tt))))))
+args_of κs i = (i.k, (lent i.offsets, (lent i.codes, (lent_mut i.list, (lent_mut i.work, (lent_mut i.trail, tt))))))
 
 abbrev pub exit_of : (κs : Lfts 5) → Given → Outcome → AtExit (ended_of 5 join_kinds.ps join_kinds.r) κs
-exit_of κs i o = (i.k, (lent i.offsets, (lent i.codes, (lent o.list, (lent o.work, (lent o.trail, tt))))))
+exit_of κs i o = (i.k, (lent i.offsets, (lent i.codes, (lent_mut o.list, (lent_mut o.work, (lent_mut o.trail, tt))))))
 
 -- it meets the contract in the code
 abbrev pub MeetsContract : Version → Type 0

@@ -1,6 +1,9 @@
 // The join: checks 1 to 7 in their order, then the search over tables that are accepted.
 // Its contract is one equation with `join_of`. specs/Join.antt says the same as the record `Joins`, in the paper's words, and
 // proofs/Demands.antt draws demands 1, 2 and 3 from the contract.
+
+#![tactic(auto)]
+
 ghost use Rattle.std.specs.Prelude.{◌≡◌};
 ghost use Rattle.search.specs.Outcome.{outcome};
 ghost use Rattle.join.specs.Join.{rooms_check, call_check, join_of};

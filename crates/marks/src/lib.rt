@@ -1,5 +1,8 @@
 // Marks: a bit for each number, 16 numbers a word. The codes of one context are marked;
 // what another context shares with it is then counted by one test a code, in no order.
+
+#![tactic(auto)]
+
 ghost use Rattle.std.specs.Prelude.{◌≡◌, ◌*◌, ◌≤◌, ◌<◌, length, drop};
 ghost use Rattle.marks.specs.Marks.{code_words, HaveMarks, marks_of, with_mark, bit_of, is_marked, marked_count, marked_from};
 

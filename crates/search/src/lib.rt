@@ -2,6 +2,9 @@
 // `search` answers for every word of the three buffers (specs/Outcome.antt); the functions above it keep the records of
 // specs/Search.antt. It rests on the agenda for the order of the events, on the marks for what two contexts share, and on the
 // entries for the list. Of the work area it knows that the agenda's words come first and the marks behind them.
+
+#![tactic(auto)]
+
 ghost use Rattle.std.specs.Prelude.{◌≡◌, not, true, false, List, [], ◌+◌, ◌*◌, ◌≤◌, ◌<◌, length};
 ghost use Rattle.std.proofs.Math.ListN.{get_elem?};
 ghost use Rattle.site.specs.Measure.{in_use};
@@ -44,7 +47,7 @@ const MOST: usize = 110;
 const SHORT: usize = 48;
 
 // What the join answers: its three counts, or a refusal with its place.
-#[derive(Drop)]
+#[derive(Clone, Copy)]
 pub enum Answer {
     Listed {
         found: usize,
@@ -58,28 +61,28 @@ pub enum Answer {
 }
 
 // How many pairs are listed, and how many were met.
-#[derive(Drop)]
+#[derive(Clone, Copy)]
 pub struct Counts {
     pub found: usize,
     pub met: usize,
 }
 
 // An event's turn so far: the counts, and whether the codes of its context are marked.
-#[derive(Drop)]
+#[derive(Clone, Copy)]
 struct Progress {
     counts: Counts,
     marked: bool,
 }
 
 // What a turn leaves: the counts, and how many events were done before it at its code.
-#[derive(Drop)]
+#[derive(Clone, Copy)]
 struct Turned {
     counts: Counts,
     earlier: usize,
 }
 
 // Two contexts, the one with the smaller number first.
-#[derive(Drop)]
+#[derive(Clone, Copy)]
 pub struct TwoContexts {
     pub lower: Context,
     pub higher: Context,

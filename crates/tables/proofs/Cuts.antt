@@ -67,7 +67,8 @@ pub site_back : (p : List ℕ) (site : List (List ℕ)) → site_of (offsets_fro
 unfolding offsets_from site_of all_codes
 site_back p [] = refl
 site_back p (c ∷ []) = ap (λ (l : List ℕ). l ∷ []) (middle p c [])
-site_back p (c ∷ d ∷ site) = ap₂ ◌∷◌ (middle p c (d ++ all_codes site)) (rw (length-append, append_assoc) at (site_back (p ++ c) (d ∷ site)))
+site_back p (c ∷ d ∷ site) = ap₂ ◌∷◌ (middle p c (d ++ all_codes site)) (rw append_assoc at
+    (subst (λ (n : ℕ). site_of (offsets_from n (d ∷ site)) ((p ++ c) ++ all_codes (d ∷ site)) ≡ d ∷ site) (length-append p c) (site_back (p ++ c) (d ∷ site))))
 
 -- sound tables are the tables of their site
 pub tables_back : {os cs : List ℕ} → Sound os cs → (offsets_of (site_of os cs) ≡ os) × (all_codes (site_of os cs) ≡ cs)

@@ -1,5 +1,8 @@
 // The lent tables, offsets and codes as words: refusals 1 to 5, each with the earliest place at which its rule is broken,
 // and a context's codes as a part of the lent codes.
+
+#![tactic(auto)]
+
 ghost use Rattle.std.specs.Prelude.{◌≡◌, ◌+◌, ◌≤◌, ◌<◌, length};
 ghost use Rattle.site.specs.Site.{codes_of};
 ghost use Rattle.site.specs.Tables.{site_at};
@@ -11,13 +14,14 @@ ghost use Rattle.tables.specs.Rules.{end_rule, offset_rule, code_rule, part_rule
 use site::Context;
 
 // Nothing refused, or the paper's number and place of a refusal.
-#[derive(Drop)]
+#[derive(Clone, Copy)]
 pub enum Check {
     Fine,
     Refused { number: u16, place: usize },
 }
 
 // 3 where the offset i is the last and not the codes' length, or 0.
+#[tactic(auto, unfolding(crate::specs::Rules::end_rule))]
 fn end_rule(offsets: &[u16], codes_len: usize, i: usize) -> u16
     requires { i < length offsets.now }
     ensures { result ≡ end_rule offsets.now codes_len i }
@@ -31,6 +35,7 @@ fn end_rule(offsets: &[u16], codes_len: usize, i: usize) -> u16
 }
 
 // 3 where the offset i is the first and not 0, below the one before, or the last and not the codes' length, or 0.
+#[tactic(auto, unfolding(crate::specs::Rules::offset_rule))]
 fn offset_rule(offsets: &[u16], codes_len: usize, i: usize) -> u16
     requires { i < length offsets.now }
     ensures { result ≡ offset_rule offsets.now codes_len i }
@@ -71,6 +76,7 @@ fn check_offsets(offsets: &[u16], codes_len: usize) -> Check
 }
 
 // 4 where the code i is above 4,095, 5 where it is not above the one before it in the part that begins at `from`, or 0.
+#[tactic(auto, unfolding(crate::specs::Rules::part_rule, crate::specs::Rules::code_rule_by))]
 fn code_rule(codes: &[u16], from: usize, i: usize) -> u16
     requires { (from ≤ i) × (i < length codes.now) }
     ensures { result ≡ part_rule from codes.now i }
@@ -125,6 +131,7 @@ fn check_codes(offsets: &[u16], codes: &[u16]) -> Check
 }
 
 // 1 where k is 0 or above 64, 2 where the tables have too few or too many words.
+#[tactic(auto, unfolding(crate::specs::Checks::sizes_check))]
 fn check_sizes(k: u16, offsets_len: usize, codes_len: usize) -> Check
     ensures { result ≡ sizes_check k offsets_len codes_len }
 {
