@@ -1,11 +1,11 @@
 -- One call of `line` as its callers see it: they lend it a text and a pen in a local, both for the time of the call only, and have both
--- back as `line` left them. Of `line` only its contract is used. Whoever lends a pen walks this once for each line.
+-- back as `line` left them. Of `line` only its contract is used. A walk by hand takes this once for each line.
 use mathlib.Core.Path.{◌≡◌, refl, ap}
 use Prim.Native.Nat.{ℕ}
 use mathlib.Core.List.{[], ◌∷◌, ◌++◌, List}
 use lib.ListN.{length}
 use seplogic.Ra.Ura.{Ura}
-use seplogic.Ra.TreeShare.{full_share}
+use base.Fraction.{full_share}
 use mir.Syntax.{named, Place, Opd as Operand, Body as Code, seq, call}
 use mir.Val.{Val, vptr, vunit}
 use base.Logic.{SProp, ent, id⊢}
@@ -15,7 +15,7 @@ use prog.Routine.{Routine}
 use prog.Wp.{Env, Calls, Loops}
 use types.Logic.{Logic}
 use contract.Monad.{Fun, fact}
-use types.Kit.{Item, Post, Seq, runs, lands, ‵, raw, some, given, later, mean, ◌⊛◌, ⋆, ◌$◌, ◌∵◌, !, qed, cut, move, keep, use1, use2, use3, split, join, pick, learn, fsplit, fjoin, feq_l, regoal, show, check, await, updating, now as at_once, done}
+use types.Kit.{Item, Post, Seq, runs, lands, ‵, raw, some, given, later, mean, ◌⊛◌, ⋆, ◌$◌, ◌∵◌, !, qed, cut, move, keep, drop, use1, use2, use3, split, join, pick, learn, fsplit, fjoin, feq_l, regoal, show, check, await, updating, now as at_once, done}
 use types.Run.{Opds}
 use types.SemTy.{Body}
 use types.Tokens.{lft_new, lft_end}
@@ -23,7 +23,8 @@ use sound.WpLaws.{FmC}
 use denote.Memory.{mem, part_at}
 use denote.Laws.{Is}
 use denote.Builtin.{u8, unit}
-use denote.Ref.{MutBor, MutRef}
+use denote.MutBor.{MutBor, as_bor}
+use denote.Ref.{MutRef}
 use denote.Slice.{finally, mut_slice_vals}
 use denote.Steps.{heard, nothing, only}
 use denote.Struct.Laws as LL
@@ -67,7 +68,7 @@ module _ {M : Type 1} {𝓤 : Ura M} (𝓛 : Logic 𝓤) where
 
     -- what `line`'s triple binds outside: the slices as they are passed, and the local, lent for ν under the name δ
     abbrev pub to_line : ℕ × GName → (LineTriple 𝓛 at_mem run).Ghost
-    to_line g = (((t.lft, (g.0 ∷ [], (k.lft, (n.lft, tt)))), (t.share, (full_share, (k.share, (n.share, tt)))), tt, (t.ref, (lent g.1, (k.ref, (n.ref, tt)))), (s ∷ [], (vptr l 0 ∷ [], (slot k ∷ [], (slot n ∷ [], tt))))), tt)
+    to_line g = (((t.lft, (g.0 ∷ [], (k.lft, (n.lft, tt)))), (t.share, (full_share, (k.share, (n.share, tt)))), tt, (t.ref, (lent g.1, (as_bor k.ref, (as_bor n.ref, tt)))), (s ∷ [], (vptr l 0 ∷ [], (slot k ∷ [], (slot n ∷ [], tt))))), tt)
 
     -- what the caller hands over
     abbrev pub line_asks : List (Item 𝓤)
@@ -91,7 +92,7 @@ module _ {M : Type 1} {𝓤 : Ura M} (𝓛 : Logic 𝓤) where
 
     -- what it gives back: the local, the tokens, and the text's last bytes
     abbrev back : Val → Item 𝓤
-    back w = later (some (λ (z : Pen × List ℕ). given (LineTold w z) (‵ (cell l z.0) ⊛ ‵ (token t) ⊛ ‵ (token k) ⊛ ‵ (token n) ⊛ ‵ (finally u8 t.ref.name z.1))))
+    back w = later (some (λ (z : Pen × List ℕ). given (LineTold w z) (‵ (cell l z.0) ⊛ ‵ (token t) ⊛ ‵ (token k) ⊛ ‵ (token n) ⊛ ‵ (finally u8 t.ref.ghost_name z.1))))
 
     -- the local is taken back
     after : (g : ℕ × GName) (w : Val) → ent 𝓤 (⋆ 𝓛 (raw ((LineTriple 𝓛 at_mem run).post (to_line g) w) ∷ ‵ (Lender l g) ∷ [])) (mean 𝓛 (back w))
@@ -100,12 +101,12 @@ module _ {M : Type 1} {𝓤 : Ura M} (𝓛 : Logic 𝓤) where
         use1 𝓛 (later (some (λ (r : Unit {0}). ((‵ (token t) ⊛ ‵ (flft (g.0 ∷ []) full_share) ⊛ ‵ (token k) ⊛ ‵ (token n) ⊛ ‵ ftrue) ⊛ ‵ (unit.own_val r (w ∷ []))) ⊛ raw (ensured 𝓛 line.ended (line.clauses 𝓛 at_mem run) (to_line g).0.0 (to_line g).0.3 tt r)))) (id⊢ 𝓤 _) $ await ! tt $ pick ! (λ r.
         -- what `line` ensures, at some last text and pen
         split ! $ move ! (1 ∷ []) $ use1 𝓛 (some (λ (zs : List ℕ × (Pen × (Unit {0} × (Unit {0} × Unit {0})))). ‵ (lasts line.ended (to_line g).0.0 (to_line g).0.3 zs) ⊛ raw (fact 𝓤 (Done zs.1.0 zs.0)))) (id⊢ 𝓤 _) $ pick ! (λ zs.
-        split ! $ move ! (1 ∷ []) $ heard ! (Done zs.1.0 zs.0) (λ e. fsplit ! $ fsplit ! $ move ! (1 ∷ []) $ feq_l ! (λ same. move ! (1 ∷ []) $ fsplit ! $ move ! (3 ∷ []) $ split ! $ move ! (1 ∷ []) $ feq_l ! (λ u.
+        split ! $ move ! (1 ∷ []) $ heard ! (Done zs.1.0 zs.0) (λ e. fsplit ! $ fsplit ! $ fsplit ! $ move ! (1 ∷ []) $ feq_l ! (λ same. move ! (1 ∷ []) $ drop ! $ move ! (1 ∷ []) $ fsplit ! $ fsplit ! $ move ! (1 ∷ []) $ drop ! $ move ! (3 ∷ []) $ split ! $ move ! (1 ∷ []) $ feq_l ! (λ u.
         -- [the tokens; the last pen; …; the last text; the lender's part]
         split ! $ move ! (1 ∷ []) $ split ! $ lft_end ! tt $ move ! (0 ∷ 6 ∷ 3 ∷ []) $ use3 𝓛 (later (‵ (part_at R full_share zs.1.0 l 0))) (ref_back 𝓛 R (g.0 ∷ []) g.1 zs.1.0 l 0) $ await ! tt $
         use1 𝓛 (‵ (cell l zs.1.0)) (pen_out 𝓛 zs.1.0 l 0) $ move ! (1 ∷ []) $ split ! $ move ! (1 ∷ []) $ split ! $
         -- [the numbers' token; …; the key's token; the local; the text's token; …; the last text]
-        at_once ! $ show ! (λ (z : Pen × List ℕ). mean 𝓛 (given (LineTold w z) (‵ (cell l z.0) ⊛ ‵ (token t) ⊛ ‵ (token k) ⊛ ‵ (token n) ⊛ ‵ (finally u8 t.ref.name z.1)))) (zs.1.0, zs.0) $
+        at_once ! $ show ! (λ (z : Pen × List ℕ). mean 𝓛 (given (LineTold w z) (‵ (cell l z.0) ⊛ ‵ (token t) ⊛ ‵ (token k) ⊛ ‵ (token n) ⊛ ‵ (finally u8 t.ref.ghost_name z.1)))) (zs.1.0, zs.0) $
         check ! (ap only u, (e, same)) $ keep ! (3 ∷ 4 ∷ 2 ∷ 0 ∷ 6 ∷ []) $ done !)))))
 
     -- the call itself, between the two
@@ -123,11 +124,11 @@ module _ {M : Type 1} {𝓤 : Ura M} (𝓛 : Logic 𝓤) where
   -- the call with the text lent too: text and pen are had again
   module _ (at_mem : Memory → SProp 𝓤) (run : Routine → Fun 𝓤) {C : Calls 𝓤 H} (mono : FmC 𝓤 H 𝓛.laws C) (known : Triple 𝓤 (C #pen·line) (LineTriple 𝓛 at_mem run)) (t : LentSlice) (s : Val) (at : s ∷ [] ≡ mut_slice_vals t.ref) (h : Pen) (k n : LentSlice) (l : ℕ) {K : Type 0} {Γ : List (Item 𝓤)} {E : Env 𝓤 H} {Λ : Loops 𝓤 H} {q : Post 𝓤 H} {d : Place} {xs : List Operand} {rest : Code} where
     pub lends_both : K → Is R h (mach h ∷ []) → Fits h t.ref.now
-        → ((ν : ℕ) (γ : GName) (g : ℕ × GName) → Opds K 𝓛 (raw ((LineTriple 𝓛 at_mem run).pre (to_line at_mem run (again t ν γ) s h k n l g)) ∷ ‵ (Lender l g) ∷ ‵ (SliceKept t ν γ) ∷ Γ) E xs (s ∷ vptr l 0 ∷ slot k ∷ slot n ∷ []))
+        → ((ν : ℕ) (γ : GName) (g : ℕ × GName) → Opds K 𝓛 (raw ((LineTriple 𝓛 at_mem run).pre (to_line at_mem run (again t ν γ) s h k n l g)) ∷ ‵ (Lender l g) ∷ SliceKept 𝓛 t ν γ ∷ Γ) E xs (s ∷ vptr l 0 ∷ slot k ∷ slot n ∷ []))
         → ((z : Pen) (zs : List ℕ) → Lined (line_text k.ref.now n.ref.now) t.ref.now zs h z → length zs ≡ length t.ref.now → Seq K 𝓛 (‵ (cell l z) ∷ ‵ (token t) ∷ ‵ (token k) ∷ ‵ (token n) ∷ ‵ (Text (holding t zs) s) ∷ Γ) (lands C Λ E d vunit rest q))
         → Seq K 𝓛 (line_asks at_mem run t s h k n l ++ Γ) (runs C Λ E (seq (call #pen·line xs d) rest) q)
     lends_both i is within ops go =
-        lft_new i tt (λ ν. move i (5 ∷ 2 ∷ []) $ use2 𝓛 (later (some (λ (γ : GName). ‵ (Text (again t ν γ) s) ⊛ ‵ (SliceKept t ν γ)))) (text_lent 𝓛 t s at ν) $ await i tt $ pick i (λ γ. split i $
+        lft_new i tt (λ ν. move i (5 ∷ 2 ∷ []) $ use2 𝓛 (later (some (λ (γ : GName). ‵ (Text (again t ν γ) s) ⊛ SliceKept 𝓛 t ν γ))) (text_lent 𝓛 t s at ν) $ await i tt $ pick i (λ γ. split i $
         -- [the text lent again; what is kept; the new token; the local; the tokens of key and numbers; what these own]
         move i (3 ∷ 2 ∷ 4 ∷ 5 ∷ 0 ∷ 6 ∷ 7 ∷ []) $ lends at_mem run (again t ν γ) s h k n l mono known i is within (ops ν γ) (λ z zs e same.
         -- [the local; the new token; the tokens of key and numbers; the last text; what is kept]

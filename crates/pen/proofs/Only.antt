@@ -1,16 +1,13 @@
 -- One answer only, of the contract itself as it is read from the code: two calls with the same arguments that meet it answer the same
 -- pen and leave the same text.
-use mathlib.Core.Path.{◌≡◌, sym, ◌∙◌}
+use mathlib.Core.Path.{sym, ◌∙◌}
 use mathlib.Core.List.{List}
 use Prim.Native.Nat.{ℕ}
-use contract.Lifetimes.{Lfts}
-use denote.Triple.Entry.{Args, Res}
-use denote.Triple.Clauses.{AtExit}
 use Rattle.words.proofs.OneAnswer.{OneAnswer}
 use Rattle.pen.specs.declared.Pen.{Pen}
 use Rattle.pen.specs.declared.Twice.{Twice}
-use Rattle.pen.specs.contracts.line as signed
-use Rattle.pen.proofs.LineContract as line
+use Rattle.pen.proofs.line.Kinds as line_kinds
+use Rattle.pen.proofs.line.Reads as line
 use Rattle.pen.proofs.line_at.Kinds as line_at_kinds
 use Rattle.pen.proofs.line_at.Reads as line_at_lem
 use Rattle.pen.proofs.line_by.Kinds as line_by_kinds
@@ -22,7 +19,7 @@ pub line_at_only : OneAnswer 3 line_at_kinds.ps line_at_kinds.r line_at_lem.Post
 line_at_only κs a u v x y p q = λ i. ((p.pen ∙ sym q.pen) i, (p.text ∙ sym q.text) i)
 
 -- of `line` the pen is a parameter: it is seen at exit
-pub line_only : (κs : Lfts 4) (a : Args signed.signature κs) (u v : Res signed.signature κs) (x y : AtExit signed.ended κs) → line.Post κs a u x → line.Post κs a v y → ◌≡◌ {A = Pen × List ℕ} (x.1.0.now, x.0.now) (y.1.0.now, y.0.now)
+pub line_only : OneAnswer 4 line_kinds.ps line_kinds.r line.Post {B = Pen × List ℕ} (λ κs u x. (x.1.0.now, x.0.now))
 line_only κs a u v x y p q = λ i. ((p.pen ∙ sym q.pen) i, (p.text ∙ sym q.text) i)
 
 pub line_by_only : OneAnswer 3 line_by_kinds.ps line_by_kinds.r line_by.Post {B = Pen × List ℕ} (λ κs u x. (u, x.0.now))

@@ -1,5 +1,8 @@
 // The pen: writes lines into the rest of a lent text. Its place and the room left are one small record, moved on by each line.
 // A line is measured before a byte of it is written, so a line without room changes nothing.
+
+#![tactic(auto)]
+
 ghost use Rattle.std.specs.Prelude.{◌≡◌, ◌++◌, ◌+◌, ◌≤◌, leb, length, drop};
 ghost use Rattle.sheet.specs.Number.{digits_of};
 ghost use Rattle.sheet.specs.Text.{codes_text, line_text};
@@ -7,27 +10,28 @@ ghost use Rattle.pen.specs.Pieces.{Wrote, next_text};
 ghost use Rattle.pen.specs.Lines.{Fits, Lined, LinedTwice};
 
 // Where the next line begins, and how many bytes are left behind that.
-#[derive(Drop)]
+#[derive(Clone, Copy)]
 pub struct Pen {
     pub place: usize,
     pub room: usize,
 }
 
 // Where a pen stood between two lines, and the pen behind both.
-#[derive(Drop)]
+#[derive(Clone, Copy)]
 pub struct Twice {
     pub between: usize,
     pub pen: Pen,
 }
 
 // The pen behind what was written, or that it does not fit.
-#[derive(Drop)]
+#[derive(Clone, Copy)]
 pub enum Penned {
     On(Pen),
     Full,
 }
 
 // How many digits n has.
+#[tactic(auto, using(sheet::proofs::Digits::length_more, sheet::proofs::Digits::length_most, sheet::proofs::Digits::length_one))]
 fn digit_count(n: u16) -> usize
     ensures { result ≡ length (digits_of n) }
 {
@@ -165,7 +169,7 @@ pub fn line_at(text: &mut [u8], pen: Pen, key: &[u8], numbers: &[u16]) -> Pen
     pen
 }
 
-// The same with the pen lent: it is read, and stored anew behind the line. Thin, and walked by hand.
+// The same with the pen lent: it is read, and stored anew behind the line. Thin.
 pub fn line(text: &mut [u8], pen: &mut Pen, key: &[u8], numbers: &[u16])
     requires { Fits pen.old text.old }
     ensures { Lined (line_text key.now numbers.now) text.old text.new
@@ -176,7 +180,7 @@ pub fn line(text: &mut [u8], pen: &mut Pen, key: &[u8], numbers: &[u16])
     *pen = new;
 }
 
-// Lends a pen of its own to `line`, and answers it moved on. Thin, and walked by hand: whoever calls it needs no walk.
+// Lends a pen of its own to `line`, and answers it moved on. Thin.
 pub fn line_by(text: &mut [u8], pen: Pen, key: &[u8], numbers: &[u16]) -> Pen
     requires { Fits pen text.old }
     ensures { Lined (line_text key.now numbers.now) text.old text.new pen result }
@@ -187,7 +191,7 @@ pub fn line_by(text: &mut [u8], pen: Pen, key: &[u8], numbers: &[u16]) -> Pen
 }
 
 // Lends one pen to two lines in turn. A line without room leaves text and pen as they were, and the next one is written from there:
-// `between` tells whether the first had room. Thin, and walked by hand.
+// `between` tells whether the first had room. Thin.
 pub fn two_lines(
     text: &mut [u8],
     pen: Pen,

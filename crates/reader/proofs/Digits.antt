@@ -88,3 +88,6 @@ module _ {bs : List ℕ} {v i : ℕ} (w : Valued bs v i) where
         few = omega arith;
         same = w.same ∙ rw (drop-cons bs i 0, cap (v * 10 + (get_or bs i 0 - 48)) (drop (suc i) bs), ← e, add-one);
       }
+
+-- the ways of `digit_run`
+pub ruleset running = (run_next, run_below, run_above, run_end)

@@ -71,3 +71,6 @@ module _ (w : List ℕ) (room at : ℕ) {n : ℕ} (counted : n ≡ length (digit
         unfolding number_of part_by
         number_read h =
             rw (ne_eqb _ _ is_some, le-ltb 65535 _ is_small, lt-ltb _ room has_room, le-ltb _ _ (rw counted at h), ← is_value)
+
+-- all ways of `number_in`
+pub ruleset judged = (front_taken, front_digits, no_digit, too_large, no_room, bad_behind, number_read)

@@ -113,3 +113,6 @@ module _ (key l : List ℕ) (at : ℕ) {m : ℕ} (q : m ≡ matched_by key l) wh
       → r ≡ part_by itself (at + m + length (take (length l - m) (drop m l))) (number_of room (at + m) (take (length l - m) (drop m l)))
       → r ≡ part_by itself (at + length l) (behind key (number_of room) at l)
   number_follows room h i e = rw (line_behind (number_of room) h, ← tail_end i) e
+
+-- the ways of `matched`
+pub ruleset matching = (matched_next, matched_other, matched_short, matched_end)

@@ -1,6 +1,6 @@
 -- The readings of numbers and lines as the reader's own enum: a value with the place behind it, or a refusal.
 use Rattle.std.specs.Prelude.{cond, List, [], ◌∷◌, ℕ, suc, ◌+◌, min, eqb, ltb, length, drop}
-use Rattle.std.specs.Borrow.{Bor}
+use Rattle.std.specs.Borrow.{MutBor}
 use denote.Triple.Both.{Both}
 use Rattle.site.specs.Tables.{all_codes}
 use Rattle.sheet.specs.Read.{Read, value, refused, ◌then◌}
@@ -14,7 +14,7 @@ use Rattle.reader.specs.declared.Reading.{Reading}
 use Rattle.reader.specs.declared.Reading.TheVariants as reading
 
 -- in a contract: how many words of a table were lent, as an `ensures` names it
-abbrev pub words_lent : {X : Type 0} → Both (Bor (List ℕ)) X → ℕ
+abbrev pub words_lent : {X : Type 0} → Both (MutBor (List ℕ)) X → ℕ
 words_lent words = length words.entry.now
 
 -- a reading whose value is counted by f, and behind which stands the place `next`

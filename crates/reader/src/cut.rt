@@ -5,6 +5,7 @@ ghost use Rattle.sheet.specs.Pieces.{front_to};
 ghost use Rattle.reader.specs.Parts.{line_at};
 
 // The part from `at` up to, and without, the next byte b; or to the end.
+#[tactic(auto, using(crate::proofs::Cuts::sought_next, crate::proofs::Cuts::cut_within, crate::proofs::Cuts::cut_here, crate::proofs::Cuts::cut_end))]
 pub(crate) fn piece_from(text: &[u8], at: usize, b: u8) -> &[u8]
     requires { at ≤ length text.now }
     ensures { (result.now ≡ front_to b (drop at text.now)) × (at + length result.now ≤ length text.now) }

@@ -1,5 +1,8 @@
 // The reader of site sheets: it checks form and room, and nothing else.
 // A sheet is cut into lines and a line into words. Each is read from the left; the first refusal goes up as it is.
+
+#![tactic(auto)]
+
 ghost use Rattle.std.specs.Prelude.{◌≡◌, ◌≤◌, length};
 ghost use Rattle.sheet.specs.Reading.{read_sheet};
 ghost use Rattle.reader.specs.Parts.{words_lent, read_rest, whole_by};
@@ -12,20 +15,21 @@ mod line; // a key and a number, and a line's end
 mod context; // the `c=` lines
 
 // A sheet's reading.
-#[derive(Drop)]
+#[derive(Clone, Copy)]
 pub enum Reading {
     Sheet { k: u16, contexts: u16, codes: u16 },
     Refused { number: u16, place: usize },
 }
 
 // The reading of a number or of a line: its value with the place behind it.
-#[derive(Drop)]
+#[derive(Clone, Copy)]
 pub(crate) enum Part {
     Read { value: u16, next: usize },
     Refused { number: u16, place: usize },
 }
 
 // The sheet of k and so many contexts, once its `c=` lines are read; or the refusal of a part, which tells neither.
+#[tactic(auto, unfolding(crate::specs::Parts::whole_by))]
 fn whole(k: u16, contexts: u16, last: Part) -> Reading
     ensures { result ≡ whole_by k contexts last }
 {
@@ -65,6 +69,7 @@ fn read_into(sheet: &[u8], offsets: &mut [u16], codes: &mut [u16]) -> Reading
 }
 
 // How many offset words hold data.
+#[tactic(auto, unfolding(crate::specs::Fronts::offsets_used))]
 fn offsets_used(r: Reading) -> usize
     ensures { result ≡ offsets_used r }
 {
@@ -75,6 +80,7 @@ fn offsets_used(r: Reading) -> usize
 }
 
 // How many code words hold data.
+#[tactic(auto, unfolding(crate::specs::Fronts::codes_used))]
 fn codes_used(r: Reading) -> usize
     ensures { result ≡ codes_used r }
 {

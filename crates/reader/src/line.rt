@@ -9,6 +9,7 @@ use super::cut::line_from;
 use super::number::number_in;
 
 // How many bytes of the key stand at the line's front.
+#[tactic(auto, using(crate::proofs::Keys::matching))]
 pub(crate) fn matched(key: &[u8], l: &[u8]) -> usize
     ensures { (result ≡ matched_by key.now l.now) × (result ≤ length l.now) }
 {
@@ -26,6 +27,7 @@ pub(crate) fn matched(key: &[u8], l: &[u8]) -> usize
 }
 
 // Reads a line that is a key and a number.
+#[tactic(auto, using(crate::proofs::Keys::number_broken, crate::proofs::Keys::number_follows))]
 fn number_behind(l: &[u8], at: usize, key: &[u8], room: usize) -> Part
     requires { at + length l.now < 2 ^ 64 }
     ensures { result ≡ part_by itself (at + length l.now) (behind key.now (number_of room) at l.now) }
@@ -41,6 +43,7 @@ fn number_behind(l: &[u8], at: usize, key: &[u8], room: usize) -> Part
 }
 
 // Steps over the byte 10 at `next`, behind a line that was read: 9 there at the sheet's end, if none stands there.
+#[tactic(auto, using(crate::proofs::Ends::ended_none, crate::proofs::Ends::ended_next))]
 pub(crate) fn line_end(value: u16, next: usize, end: usize) -> Part
     ensures { result ≡ ended_by end value next }
 {

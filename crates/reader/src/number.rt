@@ -7,6 +7,7 @@ ghost use Rattle.reader.specs.Parts.{part_by, itself};
 use super::Part;
 
 // How many digits stand at the front.
+#[tactic(auto, using(crate::proofs::Digits::running))]
 fn digit_run(w: &[u8]) -> usize
     ensures { result ≡ length (digit_run w.now) }
 {
@@ -25,6 +26,7 @@ fn digit_run(w: &[u8]) -> usize
 }
 
 // How many digits can stand in the number: one that begins with 0 has that digit alone.
+#[tactic(auto, using(crate::proofs::Digits::digits_none, crate::proofs::Digits::digits_zero, crate::proofs::Digits::digits_all))]
 fn digits_in(w: &[u8]) -> usize
     ensures { result ≡ length (digits_in w.now) }
 {
@@ -45,6 +47,7 @@ fn capped(x: u32) -> u32
 }
 
 // The number that digits say, capped.
+#[tactic(auto, using(crate::proofs::Digits::valued_next, crate::proofs::Digits::valued_end))]
 fn value(digits: &[u8]) -> u32
     requires { AllDigits digits.now }
     ensures { result ≡ min 65536 (value_of digits.now) }
@@ -60,6 +63,7 @@ fn value(digits: &[u8]) -> u32
 }
 
 // Reads the number that fills w, which stands at the place `at` of the sheet; there is room for numbers below `room`.
+#[tactic(auto, using(crate::proofs::Judged::judged))]
 pub(crate) fn number_in(w: &[u8], at: usize, room: usize) -> Part
     requires { at + length w.now < 2 ^ 64 }
     ensures { result ≡ part_by itself (at + length w.now) (number_of room at w.now) }

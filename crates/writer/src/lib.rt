@@ -1,4 +1,7 @@
 // The writer of site sheets. The pen writes line after line into the rest of the lent text; what it leaves behind them is made zero at the end.
+
+#![tactic(auto)]
+
 ghost use Rattle.std.specs.Prelude.{length};
 ghost use Rattle.site.specs.Tables.{site_at};
 ghost use Rattle.sheet.specs.Text.{lines_text, sheet_text};
@@ -12,7 +15,7 @@ use site::Context;
 use tables::Check;
 
 // How long the sheet is, or the refusal.
-#[derive(Drop)]
+#[derive(Clone, Copy)]
 pub enum Writing {
     Written(usize),
     Refused { number: u16, place: usize },
