@@ -1,8 +1,11 @@
 // The heat map: one call answers one cell, for two contexts in either order, from a list buffer and the number of its entries.
 // A cell is blank, or shared divided by union as an f64, rounded once. Nothing is changed.
+
+#![tactic(auto)]
+
 ghost use Rattle.std.specs.Prelude.{◌≡◌, ◌*◌, ◌≤◌, ◌<◌, length};
-ghost use Rattle.entries.specs.Entries.{width, entries as entriesOf};
-ghost use Rattle.heat.specs.Cells.{quotient as quotient_of, pair, names as namesPair, entry_for, cell_for, cell_in};
+ghost use Rattle.entries.specs.Entries.{width, entries as entries_listed};
+ghost use Rattle.heat.specs.Cells.{quotient as quotient_of, pair, names as names_pair, entry_for, cell_for, cell_in};
 ghost use Rattle.heat.specs.Checks.{numbers_check, count_check, entry_rule, entries_check, cell_check, Positive};
 ghost use Rattle.heat.specs.Answers.{cell_of, cell_value};
 
@@ -11,20 +14,21 @@ use site::Context;
 use tables::Check;
 
 // A cell of the map: blank, or shared / union of two contexts.
-#[derive(Drop)]
+#[derive(Clone, Copy)]
 pub enum Cell {
     Blank,
     Value(f64),
 }
 
 // The cell, or the paper's number and place of a refusal.
-#[derive(Drop)]
+#[derive(Clone, Copy)]
 pub enum CellAnswer {
     Cell(Cell),
     Refused { number: u16, place: usize },
 }
 
 // 13: a context number that is not below the contexts, the first at place 0, the second at place 1.
+#[tactic(auto, unfolding(crate::specs::Checks::numbers_check))]
 fn check_numbers(contexts: u16, first: Context, second: Context) -> Check
     ensures { result ≡ numbers_check contexts first.0 second.0 }
 {
@@ -46,6 +50,7 @@ fn check_numbers(contexts: u16, first: Context, second: Context) -> Check
 }
 
 // 17 at 0: more entries than so many words hold.
+#[tactic(auto, unfolding(crate::specs::Checks::count_check))]
 fn check_count(words: usize, entries: usize) -> Check
     ensures { result ≡ count_check words entries }
 {
@@ -59,6 +64,7 @@ fn check_count(words: usize, entries: usize) -> Check
 }
 
 // 17 for an entry whose contexts are not rising and below the contexts, or whose shared is 0 or above its union; else 0.
+#[tactic(auto, unfolding(crate::specs::Checks::entry_rule))]
 fn entry_rule(contexts: u16, e: Entry) -> u16
     ensures { result ≡ entry_rule contexts e }
 {
@@ -123,8 +129,9 @@ fn quotient(shared: u16, union: u16) -> f64
 }
 
 // Whether an entry names a pair.
+#[tactic(auto, unfolding(crate::specs::Cells::names))]
 fn names(e: Entry, lower: Context, higher: Context) -> bool
-    ensures { result ≡ namesPair (pair lower higher) e }
+    ensures { result ≡ names_pair (pair lower higher) e }
 {
     let a = e.lower.0;
     let l = lower.0;
@@ -140,7 +147,7 @@ fn names(e: Entry, lower: Context, higher: Context) -> bool
 fn cell_for(list: &[u16], entries: usize, lower: Context, higher: Context) -> Cell
     requires entries_in_bounds { width * entries ≤ length list.now }
     requires positive { Positive list.now entries }
-    ensures { result ≡ cell_for (entry_for (pair lower higher) (entriesOf entries list.now)) }
+    ensures { result ≡ cell_for (entry_for (pair lower higher) (entries_listed entries list.now)) }
 {
     let mut i: usize = 0;
     while i < entries {
@@ -157,7 +164,7 @@ fn cell_for(list: &[u16], entries: usize, lower: Context, higher: Context) -> Ce
 fn cell_in(list: &[u16], entries: usize, first: Context, second: Context) -> Cell
     requires entries_in_bounds { width * entries ≤ length list.now }
     requires positive { Positive list.now entries }
-    ensures { result ≡ cell_in first.0 second.0 (entriesOf entries list.now) }
+    ensures { result ≡ cell_in first.0 second.0 (entries_listed entries list.now) }
 {
     let a = first.0;
     let b = second.0;

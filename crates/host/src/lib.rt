@@ -1,5 +1,8 @@
 // The calls for programs in C. For the desktop host: the bytes of a sheet come in, and its listing goes into the
 // caller's buffer. For the viewer: one cell of the heat map. host/sazamkhri.h says the same to a reader of C.
+
+#![tactic(auto)]
+
 ghost use Rattle.std.specs.Prelude.{◌≡◌};
 ghost use Rattle.host.specs.Call.{Hosts, host_cell, HostsCell};
 

@@ -1,5 +1,8 @@
 // The listing of a site sheet: the sheet is read into tables on the stack and joined there, and the answer is
 // written as text. Everything that a caller sees is in the answer and in the lent text.
+
+#![tactic(auto)]
+
 ghost use Rattle.std.specs.Prelude.{[], ◌∷◌, ◌≡◌, ◌*◌, ◌≤◌, length};
 ghost use Rattle.words.specs.Words.{padded};
 ghost use Rattle.entries.specs.Entries.{width, entries};
@@ -35,14 +38,14 @@ const WORK: usize = 10240;
 // The bytes of the program's text: any listing fits.
 pub const PAGE: usize = 2048;
 
-#[derive(Drop)]
+#[derive(Clone, Copy)]
 pub enum Listing {
     Text(usize),
     Refused { number: u16, place: usize },
 }
 
 // What the join tells: k as asked for, and the three counts. The list is in a lent buffer.
-#[derive(Drop)]
+#[derive(Clone, Copy)]
 enum Joined {
     Counts {
         k: u16,
