@@ -1,1 +1,3 @@
 // What the package promises: the three demands over the contracts of all its calls. There is no code; read proofs/Demands.antt.
+
+#![tactic(auto)]

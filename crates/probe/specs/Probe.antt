@@ -77,7 +77,9 @@ probe_write k offsets codes text old =
     let x = tables_check k offsets codes in
     let s = sheet_text k (site_of offsets codes) in
     let r = answer_by x s (length text) in
-    cond (ltb (length old) 4) (after_write text old) (after_write (text_by x s text) (at_front (four_words (writing_number r) (writing_values r)) old))
+    cond (ltb (length old) 4)
+    (after_write text old)
+    (after_write (text_by x s text) (at_front (four_words (writing_number r) (writing_values r)) old))
 
 -- the words for the cell's value, and the answer
 pub record AfterCell : Type 0 where

@@ -1,5 +1,8 @@
 // The join, the reader, the writer and the heat map on plain words, for tests and benchmarks from outside.
 // Each answer is four words at the front of `answer`; where that has fewer, nothing is done. The value returned is always 0.
+
+#![tactic(auto)]
+
 ghost use Rattle.std.specs.Prelude.{[], ◌∷◌, ◌≡◌, ◌≤◌, length, drop};
 ghost use Rattle.search.specs.Outcome.{answer_number, answer_values};
 ghost use Rattle.reader.specs.Answers.{reading_number, reading_values};
@@ -26,6 +29,7 @@ fn put(answer: &mut [u64], a: u64, b: u64, c: u64, d: u64)
 }
 
 // The words of a join's answer.
+#[tactic(auto, unfolding(crate::specs::Probe::four_words, words::specs::Words::padded))]
 fn put_join(answer: &mut [u64], r: Answer)
     requires { 4 ≤ length answer.old }
     ensures { answer.new ≡ at_front (four_words (answer_number r) (answer_values r)) answer.old }
@@ -39,6 +43,7 @@ fn put_join(answer: &mut [u64], r: Answer)
 }
 
 // The words of a reading.
+#[tactic(auto, unfolding(crate::specs::Probe::four_words, words::specs::Words::padded))]
 fn put_read(answer: &mut [u64], r: Reading)
     requires { 4 ≤ length answer.old }
     ensures { answer.new ≡ at_front (four_words (reading_number r) (reading_values r)) answer.old }
@@ -52,6 +57,7 @@ fn put_read(answer: &mut [u64], r: Reading)
 }
 
 // The words of the writer's answer.
+#[tactic(auto, unfolding(crate::specs::Probe::four_words, words::specs::Words::padded))]
 fn put_write(answer: &mut [u64], r: Writing)
     requires { 4 ≤ length answer.old }
     ensures { answer.new ≡ at_front (four_words (writing_number r) (writing_values r)) answer.old }
@@ -63,6 +69,7 @@ fn put_write(answer: &mut [u64], r: Writing)
 }
 
 // The words of a cell.
+#[tactic(auto, unfolding(crate::specs::Probe::four_words, words::specs::Words::padded))]
 fn put_cell(answer: &mut [u64], r: CellAnswer)
     requires { 4 ≤ length answer.old }
     ensures { answer.new ≡ at_front (four_words (cell_number r) (cell_values r)) answer.old }
@@ -86,6 +93,7 @@ fn put_value(value: &mut [f64], v: f64)
 
 // The join.
 #[unsafe(no_mangle)]
+#[tactic(auto, using(crate::proofs::Probed::join_left_lem))]
 pub extern "C" fn probe_join(
     k: u16,
     offsets: &[u16],
@@ -110,6 +118,7 @@ pub extern "C" fn probe_join(
 
 // The reader.
 #[unsafe(no_mangle)]
+#[tactic(auto, using(crate::proofs::Probed::read_left))]
 pub extern "C" fn probe_read(
     sheet: &[u8],
     offsets: &mut [u16],
@@ -130,6 +139,7 @@ pub extern "C" fn probe_read(
 
 // The writer.
 #[unsafe(no_mangle)]
+#[tactic(auto, using(crate::proofs::Probed::write_left))]
 pub extern "C" fn probe_write(
     k: u16,
     offsets: &[u16],
@@ -151,6 +161,7 @@ pub extern "C" fn probe_write(
 
 // One cell of the heat map. Its value stands at the front of `value`; where that has no word, nothing is done either.
 #[unsafe(no_mangle)]
+#[tactic(auto, using(crate::proofs::Probed::cell_left, crate::proofs::Probed::no_word, crate::proofs::Probed::cell_told))]
 pub extern "C" fn probe_cell(
     contexts: u16,
     list: &[u16],
