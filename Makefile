@@ -68,9 +68,9 @@ bench:
 	$(BUILD) host probe
 	cd bench && CARGO_TARGET_DIR=../target/bench SAZAMKHRI_LIB="$$PWD/../target/staticlib" cargo run --release --quiet --offline
 
-#: make clean                 remove target/, with all that was built or listed there
+#: make clean                 remove target/ and crates/*/out/, with all that was proved, built or listed there
 clean:
-	rm -rf target
+	rm -rf target crates/*/out
 
 #: make help                  print this
 help:

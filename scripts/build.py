@@ -9,17 +9,20 @@
 
 What is there, and was made from the sources as they stand, is left alone without a word. Otherwise one line on
 standard error says what happens and how long it takes, and then how many crates are proved. All that the prover says
-is kept in target/log/build.out, and shown if a proof fails.
+is kept in target/log/build.out, and shown if a proof fails. `rt` works in crates/*/out/, and what it has made there is
+copied to its place.
 
-Exits with the status of `rt` that failed; with 1 if what was made is not there or the sources changed meanwhile; with 2
-if `rt` cannot be run or files cannot be read or written.
+Exits with the status of `rt` that failed; with 1 if what was made is not there, if the program prints something else
+than is stored beside it, or if the sources changed meanwhile; with 2 if `rt` cannot be run or files cannot be read or
+written.
 """
 import hashlib
 import os
 import queue
-import re
+import shutil
 import subprocess
 import sys
+import tempfile
 import threading
 import time
 from pathlib import Path
@@ -28,13 +31,15 @@ ROOT = Path(__file__).resolve().parent.parent
 TARGET = ROOT / "target"
 LOG = TARGET / "log" / "build.out"
 
-# Each product: its crate, the command of rt that makes it, what it makes, and its name in words.
+# Each product: its crate, the command of rt that makes it, where it is put, and its name in words.
 PRODUCTS = {
-    "program": ("sazamkhri", "check", "bin/sazamkhri", "the program"),
-    "host": ("host", "staticlib", "staticlib/libhost.a", "the library for C"),
-    "probe": ("probe", "staticlib", "staticlib/libprobe.a", "the library for tests"),
+    "program": ("sazamkhri", "run", "bin/sazamkhri", "the program"),
+    "host": ("host", "lib", "staticlib/libhost.a", "the library for C"),
+    "probe": ("probe", "lib", "staticlib/libprobe.a", "the library for tests"),
 }
-PARTS = ("src", "specs", "proofs", "stdin", "stdout", "args", "data")
+# The products run on every x86-64 processor. Where rt is not told, they need a newer one.
+PROCESSOR = ("--cpu", "x86-64")
+PARTS = ("src", "specs", "proofs", "stdin", "stdout", "args", "status", "data")
 # Seconds between two signs of life, where no terminal shows a line that changes.
 PAUSE = 15
 
@@ -61,8 +66,19 @@ def crate_of(product):
     return PRODUCTS[product][0]
 
 
-def made_by(product):
+def words_for(product):
+    """What rt is told, in the crate's folder, to make a product."""
+    return (PRODUCTS[product][1], *PROCESSOR)
+
+
+def place_of(product):
+    """Where a product is used."""
     return TARGET / PRODUCTS[product][2]
+
+
+def made_by(product):
+    """What rt makes in the crate's folder."""
+    return ROOT / "crates" / crate_of(product) / "out" / place_of(product).name
 
 
 # ---- what has changed
@@ -71,7 +87,8 @@ def made_by(product):
 def dependencies():
     """The crates of crates.txt, each with those of them that it uses."""
     lines = [line.split("#")[0] for line in (ROOT / "crates.txt").read_text(encoding="utf-8").splitlines()]
-    listed = {name.strip(): uses.split() for name, colon, uses in (line.partition(":") for line in lines) if colon}
+    parts = [line.partition(":") for line in lines if line.strip(": ")]
+    listed = {head.split()[0]: uses.split() for head, _, uses in parts if head.strip()}
     lost = [crate_of(p) for p in PRODUCTS if crate_of(p) not in listed]
     if lost:
         raise Trouble(f"crates.txt does not list {' and '.join(lost)}.", 2)
@@ -98,8 +115,8 @@ def files_of(crate):
 
 
 def sources(product, uses, kit):
-    """A digest of all that a product is made from: the kit, and every byte of every file."""
-    sums = hashlib.sha256(kit)
+    """A digest of all that a product is made from: the kit, what it is told, and every byte of every file."""
+    sums = hashlib.sha256(kit + repr(words_for(product)).encode())
     crates = sorted(needed([crate_of(product)], uses))
     for file in [ROOT / "crates.txt", *(f for crate in crates for f in files_of(crate))]:
         body = file.read_bytes()
@@ -114,11 +131,11 @@ def stamp(product):
 
 def note(product, digest):
     """What is noted: the sources, and the product itself, so that another file in its place is seen."""
-    return digest + b" " + hashlib.sha256(made_by(product).read_bytes()).hexdigest().encode()
+    return digest + b" " + hashlib.sha256(place_of(product).read_bytes()).hexdigest().encode()
 
 
 def is_made(product, uses, kit):
-    there = made_by(product).is_file() and stamp(product).is_file()
+    there = place_of(product).is_file() and stamp(product).is_file()
     return there and stamp(product).read_bytes() == note(product, sources(product, uses, kit))
 
 
@@ -153,12 +170,12 @@ class Meter:
         say("\n" if self.terminal else "")
 
 
-def lines_of(process):
-    """The lines that a process prints, and None about once a second while it is silent."""
+def lines_of(stream):
+    """The lines of a stream, and None about once a second while it is silent."""
     lines = queue.Queue()
 
     def read():
-        for line in process.stdout:
+        for line in stream:
             lines.put(line)
         lines.put("")
 
@@ -174,37 +191,51 @@ def lines_of(process):
         yield line
 
 
-def run(words, meter, log):
-    """Runs rt, counts the crates that it has proved, and gives its status."""
-    process = subprocess.Popen(
-        ["rt", *words], cwd=ROOT, env={**os.environ, "RT_CUT": "0"}, stdin=subprocess.DEVNULL,
-        stdout=subprocess.PIPE, stderr=subprocess.STDOUT, encoding="utf-8", errors="replace",
-    )
-    for line in lines_of(process):
-        proved = line and re.match(r"rt: (\w+) proved", line)
-        if line:
-            log.append(line)
-        if proved:
-            meter.add(proved[1])
-        else:
+def run(crate, words, meter, log):
+    """Runs rt in a crate's folder, and gives its status. A program is run too, and must print what is stored beside it."""
+    folder = ROOT / "crates" / crate
+    given, stored = folder / "stdin", folder / "stdout"
+    runs = words[0] == "run"
+    # The settings of whoever calls play no part.
+    own = {name: value for name, value in os.environ.items() if not name.startswith("RT_")}
+    with open(given if runs and given.is_file() else os.devnull, "rb") as stdin, tempfile.TemporaryFile() as printed:
+        process = subprocess.Popen(
+            ["rt", *words], cwd=folder, env=own, stdin=stdin, stdout=printed if runs else subprocess.PIPE,
+            stderr=subprocess.PIPE if runs else subprocess.STDOUT, encoding="utf-8", errors="replace",
+        )
+        for line in lines_of(process.stderr if runs else process.stdout):
+            log.extend([line] if line else [])
             meter.tick()
-    status = process.wait()
-    if status == 0 and words[0] == "staticlib":
-        meter.add(words[1])
+        status = process.wait()
+        printed.seek(0)
+        if runs and status == 0 and printed.read() != stored.read_bytes():
+            log.append(f"The program prints something else than {stored.relative_to(ROOT)} has.\n")
+            status = 1
     return status
 
 
 def commands(products, uses):
-    """What is run for these products. The crates below go first, together, since a library is made crate by crate."""
+    """What is run for these products, each with its crate. A crate comes behind those that it stands on."""
     crates = [crate_of(p) for p in products]
-    below = sorted(needed(crates, uses) - set(crates))
-    return [["check", *below]] + [[PRODUCTS[p][1], crate_of(p)] for p in products]
+    below = sorted(needed(crates, uses) - set(crates), key=lambda crate: (len(needed([crate], uses)), crate))
+    return [(crate, ("lib",)) for crate in below] + [(crate_of(p), words_for(p)) for p in products]
 
 
 def clear(product):
-    """Removes what stands in the product's place, and rt's own note of its crate: rt would not make it again."""
-    for file in (made_by(product), stamp(product), TARGET / "stamp" / crate_of(product)):
+    """Removes what stands in the product's place, and what rt made before: what is there afterwards was made anew."""
+    for file in (place_of(product), stamp(product), made_by(product)):
         file.unlink(missing_ok=True)
+
+
+def put(product):
+    """Puts what rt has made in its place, whole or not at all."""
+    place = place_of(product)
+    if not made_by(product).is_file():
+        raise Trouble(f"rt has not made {made_by(product).relative_to(ROOT)}.", 1)
+    place.parent.mkdir(parents=True, exist_ok=True)
+    new = place.with_name(place.name + ".new")
+    shutil.copy(made_by(product), new)
+    new.replace(place)
 
 
 def prove(products, uses):
@@ -212,15 +243,18 @@ def prove(products, uses):
     names = " and ".join(PRODUCTS[p][3] for p in products)
     say(f"Proving and building {names}: about four minutes on two cores, and only this once.\n")
     meter, log = Meter(len(needed([crate_of(p) for p in products], uses))), []
-    status = 0
-    for words in commands(products, uses):
-        status = status or run(words, meter, log)
-    meter.end()
-    LOG.parent.mkdir(parents=True, exist_ok=True)
-    LOG.write_text("".join(log), encoding="utf-8")
-    if status != 0:
-        say("".join(log))
-        raise Trouble(f"Not proved. These words are in {LOG.relative_to(ROOT)} too.", status)
+    try:
+        for crate, words in commands(products, uses):
+            status = run(crate, words, meter, log)
+            if status != 0:
+                meter.end()
+                say("".join(log))
+                raise Trouble(f"Not proved and built: {crate}. These words are in {LOG.relative_to(ROOT)} too.", status)
+            meter.add(crate)
+        meter.end()
+    finally:
+        LOG.parent.mkdir(parents=True, exist_ok=True)
+        LOG.write_text("".join(log), encoding="utf-8")
 
 
 def build(products, uses, kit):
@@ -230,8 +264,7 @@ def build(products, uses, kit):
         clear(product)
     prove(products, uses)
     for product, digest in before.items():
-        if not made_by(product).is_file():
-            raise Trouble(f"rt has not made {made_by(product).relative_to(ROOT)}.", 1)
+        put(product)
         if sources(product, uses, kit) != digest:
             raise Trouble("The sources changed while they were proved. Call this again.", 1)
         stamp(product).parent.mkdir(parents=True, exist_ok=True)

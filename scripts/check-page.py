@@ -9,6 +9,8 @@ characters. A proof file has at most 200 lines: a longer one lacks a law. Exits 
 import sys
 from pathlib import Path
 
+# The folders of a crate that people write.
+ROOMS = ("proofs", "specs", "src")
 WIDTH = 150
 LINES = 200
 # Files of proofs/ that state the demands: these are read, too.
@@ -18,7 +20,7 @@ STATEMENTS = ("Demands.antt",)
 def main(arguments):
     root = Path(arguments[0]) if arguments else Path(__file__).resolve().parent.parent
     wrong = files = 0
-    for file in sorted((root / "crates").rglob("*")):
+    for file in sorted(f for room in ROOMS for f in (root / "crates").glob(f"*/{room}/**/*")):
         if file.suffix not in (".antt", ".rt") or not file.is_file():
             continue
         files += 1

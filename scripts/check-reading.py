@@ -5,7 +5,8 @@
 
 Starts from the files that state what is promised, and follows their `use` lines through specs/: each
 definition file that is reached must be named in README's section 'What to read to believe it', by its
-path or by its folder. Exits with 1 if one is missing, or if README names a file that is not there.
+path or by its folder. Exits with 1 if one is missing, if README names a file that is not there, or if a
+statement is seen to use no definition at all.
 """
 import re
 import sys
@@ -28,8 +29,7 @@ def used(text):
     """The definition files that a file uses: crate and name."""
     return {
         (m.group(1), m.group(2))
-        for m in re.finditer(r"^(?:pub )?use Rattle·(\w+?)(?:·specs)?\.specs\.(?:specs\.)?([A-Z]\w*)\.", text, re.M)
-        if m.group(2) != "declared"
+        for m in re.finditer(r"^(?:pub )?use Rattle\.(\w+)\.specs\.([A-Z]\w*)\b", text, re.M)
     }
 
 
@@ -50,6 +50,10 @@ def main(arguments):
     section = readme.split(SECTION, 1)[1].split("\n## ", 1)[0]
     named = set(re.findall(r"`(crates/[^`*]+)`", section))
     wrong = 0
+    for path in START:
+        if not used((root / path).read_text(encoding="utf-8")):
+            print(f"{path} uses no definition")
+            wrong += 1
     for path in sorted(reached):
         if path not in named and not any(n.endswith("/") and path.startswith(n) for n in named):
             print(f"README does not name {path}")

@@ -3,16 +3,15 @@
 
     scripts/public-functions.py [ROOT]
 
-A public function owes an `ensures` that speaks of its result and, for each buffer that is lent to
-it by `&mut`, of what the buffer holds in the end (`.exit`). It also owes a theorem that no second
-answer meets its contract: by convention `FN-only` in crates/NAME/proofs/Only.antt, where the
-underscores of the function's name are `-`. The theorem is an `OneAnswer` over the function's own
-contract, its `Post`, and nothing else; its view sees the result and every lent buffer. A function
-without such a theorem is named as `crate::fn`, with a reason, in the section '## Exceptions' of
-docs/PROMISES.md.
+A public function owes an `ensures` that speaks of its `result` and, for each buffer that is lent to
+it by `&mut`, of what the buffer holds in the end (`.new`). It also owes a theorem that no second
+answer meets its contract: by convention `FN_only` in crates/NAME/proofs/Only.antt. The theorem is an
+`OneAnswer` over the function's own contract, its `Post`, and nothing else; its view sees the result
+and every lent buffer. A function without such a theorem is named as `crate::fn`, with a reason, in
+the section '## Exceptions' of docs/PROMISES.md.
 
 The entry points below are what users call. They take any input, so they have no `requires`. Each but
-those of the probe, which are for tests, has a theorem `FN-says` over its `Post` for others to use.
+those of the probe, which are for tests, has a theorem `FN_says` over its `Post` for others to use.
 
 Exits with 1 if a function owes something, and if an exception names no public function.
 """
@@ -92,12 +91,13 @@ def parameters_of(text):
 
 
 def speaks_of_result(promise):
-    """The clause is `λ r. ..` and uses its r."""
-    binder = re.match(r"\s*λ\s*\(?\s*([\w₀-₉′']+)", promise)
-    if binder is None or binder.group(1) == "_":
-        return False
-    rest = promise[binder.end() :]
-    return re.search(rf"(?<![\w-]){re.escape(binder.group(1))}(?![\w-])", rest) is not None
+    """The clause names `result`: by itself, or a field of it."""
+    return re.search(r"(?<![\w.'-])result(?![\w'-])", promise) is not None
+
+
+def speaks_of_end(promise, name):
+    """The clause names what the lent buffer holds in the end."""
+    return re.search(rf"(?<![\w.'-]){name}\.new(?![\w'-])", promise) is not None
 
 
 def contract_problems(parameters, has_result, promises):
@@ -108,7 +108,7 @@ def contract_problems(parameters, has_result, promises):
         problems.append("no `ensures` speaks of the result")
     lent = [name for name, is_mut in parameters_of(parameters) if is_mut]
     for name in lent:
-        if not any(re.search(rf"\b{name}\s*\.exit\b", p) for p in promises):
+        if not any(speaks_of_end(p, name) for p in promises):
             problems.append(f"no `ensures` speaks of `{name}` in the end")
     if not has_result and not lent:
         problems.append("neither a result nor a buffer to speak of")
@@ -140,17 +140,17 @@ def theorems(crate):
     if not file.is_file():
         return {}, {}, {}
     text = plain(file.read_text(encoding="utf-8"))
-    stated = re.compile(r"^(?:pub\s+)?([^\s:]+-(?:only|says))\s*:(?=\s)(.*?)^\1\s", re.M | re.S)
-    modules = re.findall(r"^use Rattle·\w+·proofs\.proofs\.(\S+) as (\S+)", text, re.M)
+    stated = re.compile(r"^(?:pub\s+)?([^\s:]+_(?:only|says))\s*:(?=\s)(.*?)^\1\s", re.M | re.S)
+    modules = re.findall(rf"^use Rattle\.{crate.name}\.proofs\.(\S+) as (\S+)", text, re.M)
     names = {}
-    for module, used in re.findall(r"^use (Rattle·\S+?)\.\{([^}]*)\}", text, re.M):
+    for module, used in re.findall(r"^use (Rattle\.\S+?)\.\{([^}]*)\}", text, re.M):
         names.update({name.strip(): module for name in used.split(",")})
     return {m.group(1): " ".join(m.group(2).split()) for m in stated.finditer(text)}, {a: m for m, a in modules}, names
 
 
 def meant(names, word):
     """The word is the one that words/proofs/OneAnswer.antt defines."""
-    return re.fullmatch(r"Rattle·words(?:·proofs\.proofs|\.proofs)\.OneAnswer", names.get(word, "")) is not None
+    return names.get(word) == "Rattle.words.proofs.OneAnswer"
 
 
 def path_of(source, fn):
@@ -164,52 +164,34 @@ def own(modules, path, kinds, post):
     return modules.get(kinds) == f"{path}.Kinds" and modules.get(post) == f"{path}.Reads"
 
 
-def written_out(crate, module, path):
-    """A file of proofs/ that writes the contract of a function out as `Post`, and ties it to the clauses in the code."""
-    file = crate / "proofs" / f"{module}.antt"
-    if not file.is_file():
-        return False
-    text = " ".join(plain(file.read_text(encoding="utf-8")).split())
-    alias = re.search(rf"use Rattle·\w+·proofs\.proofs\.{re.escape(path)} as (\S+)", text)
-    tie = r"pub post-is : .* → {}\.clauses 𝓤 H A mem run κs a \.ensures tt u x ≡ fact 𝓤 \(Post κs a u x\) post-is"
-    return alias is not None and re.search(tie.format(re.escape(alias.group(1))), text) is not None
-
-
 def view_problems(seen, names, parameters, has_result):
     """What a view of result u and exit x leaves out; it is built of these and of what makes a record of them."""
     problems = []
-    words = set(re.findall(r"[^\s(),.]+", re.sub(r"\bx(?:\s+\.\w+)+|\bu(?:\s+\.now)?\b", " ", seen)))
+    words = set(re.findall(r"[^\s(),.]+", re.sub(r"\bx(?:\.\w+)+|\bu(?:\.now)?\b", " ", seen)))
     if not all(".specs." in names.get(word, "") for word in words):
-        problems.append(f"the view of its `-only` theorem is more than result and buffers: {' '.join(sorted(words))}")
+        problems.append(f"the view of its `_only` theorem is more than result and buffers: {' '.join(sorted(words))}")
     if has_result and not re.search(r"(?<![\w.])u(?![\w])", seen):
-        problems.append("the view of its `-only` theorem does not see the result")
+        problems.append("the view of its `_only` theorem does not see the result")
     for i, (name, is_mut) in enumerate(parameters_of(parameters)):
-        path = r"(?<![\w.])x" + r"\s+\.1" * i + r"\s+\.0\s+\.now\b"
+        path = r"(?<![\w.])x" + r"\.1" * i + r"\.0\.now(?![\w.'])"
         if is_mut and not re.search(path, seen):
-            problems.append(f"the view of its `-only` theorem does not see `{name}`")
+            problems.append(f"the view of its `_only` theorem does not see `{name}`")
     return problems
 
 
-def only_problems(crate, path, statement, modules, names, parameters, has_result):
+def only_problems(path, statement, modules, names, parameters, has_result):
     """What is wrong with a statement that no second answer meets the contract of the function at that path."""
     form = r"OneAnswer \d+ (\S+)\.ps \1\.r (\S+)\.Post (?:\{B = [^{}]*\} )?\(λ κs u x\. (.*)\)"
     said = re.fullmatch(form, statement)
     if said and meant(names, "OneAnswer") and own(modules, path, said.group(1), said.group(2)):
         return view_problems(said.group(3), names, parameters, has_result)
-    # a contract that the kit does not read is written out
-    form = r"\(κs : [^()]*\) \(a : [^()]*\) \(u v : [^()]*\) \(x y : [^()]*\) → (\S+)\.Post κs a u x → \1\.Post κs a v y → _≡_ \{A = [^{}]*\} \((.*?)\) \((.*)\)"
-    said = re.fullmatch(form, statement)
-    if said and written_out(crate, modules.get(said.group(1), ""), path):
-        other = re.sub(r"\bu\b", "v", re.sub(r"\bx\b", "y", said.group(2)))
-        if other == said.group(3):
-            return view_problems(said.group(2), names, parameters, has_result)
     fn = path.split(".")[-1]
-    return [f"`{fn.replace('_', '-')}-only` is no `OneAnswer` over the `Post` of {path}"]
+    return [f"`{fn}_only` is no `OneAnswer` over the `Post` of {path}"]
 
 
 def says_problems(path, stated, modules, names):
     """An entry point whose contract other theorems use has a theorem of what it says."""
-    name = path.split(".")[-1].replace("_", "-") + "-says"
+    name = path.split(".")[-1] + "_says"
     said = re.fullmatch(r"Says \d+ (\S+)\.ps \1\.r (\S+)\.Post \(λ κs a u x\. .*\)", stated.get(name, ""))
     if said and meant(names, "Says") and own(modules, path, said.group(1), said.group(2)):
         return []
@@ -240,11 +222,11 @@ def main(arguments):
                         problems.append("an entry point has a `requires`")
                     if crate.name != "probe":
                         problems += says_problems(path, proved, modules, names)
-                only = name.replace("_", "-") + "-only"
+                only = name + "_only"
                 unused.discard(full)
                 if only in proved:
                     note = only
-                    problems += only_problems(crate, path, proved[only], modules, names, parameters, has_result)
+                    problems += only_problems(path, proved[only], modules, names, parameters, has_result)
                 elif full in excused:
                     note = "excepted"
                     if not excused[full]:

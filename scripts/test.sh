@@ -1,5 +1,5 @@
 #!/usr/bin/env bash
-# The whole gate: the layout, the documents, every crate proved from nothing with its must-fail edits and programs,
+# The whole gate: every crate laid out and proved with its must-fail edits and programs (scripts/rt-ci.sh), the documents,
 # then the programs in Rust, C and Python against what was built from the proved crates.
 # Whatever fails, the rest still runs; the last line counts what passed and what failed. Logs: target/gate/.
 cd "$(dirname "$0")/.." || exit 1
@@ -9,14 +9,13 @@ oracle() {
     (cd tests && CARGO_TARGET_DIR=../target/trials cargo test --release --quiet --offline --no-default-features)
 }
 
-step "layout (rt fmt --check)" rt fmt --check
+step "layout, proofs, must-fail edits and programs (rt ci)" scripts/rt-ci.sh
 step "promises name what exists" python3 scripts/check-promises.py --finished
 step "public functions have contracts and one answer" python3 scripts/public-functions.py
 step "what is read fits the page" python3 scripts/check-page.py
 step "the reading list has all that the demands rest on" python3 scripts/check-reading.py
 step "figures and names agree wherever they are told" python3 scripts/check-figures.py
 step "the checks notice damage" python3 scripts/try-checks.py
-step "proofs, must-fail edits and programs (rt ci)" rt ci
 step "program and libraries" scripts/build.py program host probe
 step "the independent program agrees with the paper's examples" oracle
 step "join against all pairs" scripts/trials.sh join

@@ -62,12 +62,12 @@ def public_functions():
 PUBLIC_FUNCTIONS = public_functions()
 
 
-def lends(source, name):
-    """Whether a buffer is lent to the function by `&mut`, as its parameters in the source say."""
+def lent(source, name):
+    """The buffers that are lent to the function by `&mut`, as its parameters in the source say."""
     text = PUBLIC_FUNCTIONS.blanked(source.read_text(encoding="utf-8"))
     named = next(found for found in PUBLIC_FUNCTIONS.PUBLIC.finditer(text) if found[1] == name)
     parameters, _, _ = PUBLIC_FUNCTIONS.header(text, named.end())
-    return any(is_mut for _, is_mut in PUBLIC_FUNCTIONS.parameters_of(parameters))
+    return [buffer for buffer, is_mut in PUBLIC_FUNCTIONS.parameters_of(parameters) if is_mut]
 
 
 def verdict(check, root):
@@ -93,31 +93,42 @@ def inside(pattern, inner, new, flags=0):
     return rewritten(pattern, lambda m: m[1] + re.sub(inner, new, m[2], count=1, flags=flags))
 
 
+def throughout(pattern, inner, new, flags=0):
+    """A change of every place inside the second group of a pattern."""
+    return rewritten(pattern, lambda m: m[1] + re.sub(inner, new, m[2]), flags)
+
+
 def contract_damages(root, full):
     """What can be wrong with an entry point's contract and theorems: what it is, the file, and the change."""
     crate, name = full.split("::")
     source, proofs = f"crates/{crate}/src/lib.rt", f"crates/{crate}/proofs/Only.antt"
-    only, says = (name.replace("_", "-") + end for end in ("-only", "-says"))
+    only, says = f"{name}_only", f"{name}_says"
     ensures = rf"(\bfn {name}\b.*?\n)(    ensures )"
+    promised = rf"(\bfn {name}\b)(.*?\n{{\n)"
     stated = rf"(pub {only} : )(OneAnswer[^\n]*(?:\n    [^\n]*)*)"
     whole = stated + rf"(\n{only}[^\n]*(?:\n    [^\n]*)*)"
-    yield f"a `requires` on {full}", source, rewritten(ensures, r"\1    requires { ⌜ 0 < 0 ⌝ }\n\2", re.S)
+    yield f"a `requires` on {full}", source, rewritten(ensures, r"\1    requires { 0 < 0 }\n\2", re.S)
+    yield f"a contract of {full} that forgets the result", source, throughout(promised, r"\bresult\b", "0", re.S)
+    for buffer in lent(root / source, name):
+        change = throughout(promised, rf"\b{buffer}\.new\b", f"{buffer}.old", re.S)
+        yield f"a contract of {full} that forgets what `{buffer}` holds in the end", source, change
     for what, change in (
         ("that does not name the contract", rewritten(rf"(pub {only} :[^\n]*?)\S+\.Post\b", r"\1Other")),
         ("over another function's contract", swapped(f"proofs.{name}.Reads", f"proofs.{name}_other.Reads")),
+        ("over a function of the same name in another crate", swapped(f"Rattle.{crate}.proofs.{name}.", f"Rattle.other.proofs.{name}.")),
         ("in a comment", rewritten(whole, r"{- \1\2\3 -}")),
         ("with a premise", rewritten(stated, r"\1⊥ → \2")),
         ("over a richer contract", inside(stated, r"(\S+\.Post)", r"(λ κs a u x. \1 κs a u x × More)")),
         ("by another `OneAnswer`", rewritten(stated, r"\1fake.\2")),
-        ("by an `OneAnswer` from elsewhere", swapped("Rattle·words.proofs.OneAnswer.{", "Rattle·words.proofs.Lists.{")),
+        ("by an `OneAnswer` from elsewhere", swapped("Rattle.words.proofs.OneAnswer.{", "Rattle.words.proofs.Lists.{")),
         ("with a view that forgets", inside(stated, r"λ κs u x\. (.*)\)$", r"λ κs u x. let w = \1 in 0)", re.S)),
     ):
         yield f"a `{only}` {what}", proofs, change
-    if lends(root / source, name):
+    if lent(root / source, name):
         change = rewritten(rf"(pub {only} :.*?λ κs u x\.)[^\n]*\)\n", r"\1 u)\n", re.S)
         yield f"a `{only}` that sees no buffer", proofs, change
     if crate != "probe":
-        yield f"no `{says}`", proofs, swapped(f"pub {says} :", f"pub not-{says} :")
+        yield f"no `{says}`", proofs, swapped(f"pub {says} :", f"pub not_{says} :")
 
 
 def damages(root):
@@ -127,16 +138,22 @@ def damages(root):
             yield what, "public-functions.py", where, change
     for what, where, old, new in FIGURES:
         yield what, "check-figures.py", where, swapped(old, new)
-    theorem = "pub trail-met :"
+    theorem = "pub trail_met :"
     yield from (
         ("a theorem over a function of the same name elsewhere in the crate", "public-functions.py",
          "crates/walk/proofs/Only.antt", swapped("proofs.two_fingers.shared_count.Reads", "proofs.shared_count.Reads")),
-        ("a contract written out that is not tied to the code", "public-functions.py",
-         "crates/pen/proofs/LineContract.antt", swapped("pub post-is :", "pub post-was :")),
+        ("a contract written out that is not tied to the code", "check-promises.py",
+         "crates/pen/proofs/LineContract.antt", swapped("pub post_is :", "pub post_was :")),
+        ("a contract written out that is not the one that is read from the code", "check-promises.py",
+         "crates/pen/proofs/LineContract.antt", swapped("pub post_read :", "pub post_told :")),
+        ("a theorem over a contract written out", "public-functions.py",
+         "crates/pen/proofs/Only.antt", swapped("Rattle.pen.proofs.line.Reads as line", "Rattle.pen.proofs.LineContract as line")),
         ("a promise kept by a theorem in a comment", "check-promises.py",
          "crates/site/proofs/Trail.antt", lambda t: t.replace(theorem, "{- " + theorem, 1) + "-}\n"),
         ("a file that the demands rest on and the reading list has not", "check-reading.py",
          "README.md", swapped("`crates/host/specs/Call.antt`", "the host's")),
+        ("a statement whose definitions are not seen", "check-reading.py",
+         "crates/demands/proofs/Demands.antt", lambda t: t.replace("use Rattle.", "use rattle.")),
         ("a long line in a definition", "check-page.py",
          "crates/site/specs/Site.antt", lambda t: t + "-- " + "a" * 150 + "\n"),
         ("a long proof file", "check-page.py", "crates/join/proofs/Causes.antt", lambda t: t + "\n" * 200),
@@ -148,8 +165,8 @@ def main(arguments):
     wrong = tried = 0
     with tempfile.TemporaryDirectory() as place:
         copy = Path(place)
-        for part in ("crates", "docs", "tests", "scripts", "examples", "host", "bench", ".ci"):
-            shutil.copytree(root / part, copy / part, ignore=shutil.ignore_patterns("target"))
+        for part in ("crates", "docs", "tests", "scripts", "tools", "examples", "host", "bench", ".ci"):
+            shutil.copytree(root / part, copy / part, ignore=shutil.ignore_patterns("target", "out"))
         for page in ("README.md", "CONTRIBUTING.md", "CHANGELOG.md", "Makefile"):
             shutil.copy(root / page, copy / page)
         for check in CHECKS:

@@ -16,33 +16,28 @@ from pathlib import Path
 ROOT = Path(__file__).resolve().parent.parent.parent
 PROGRESS = re.compile(r"  (\d+) of (\d+) crates proved, (\d+) s so far(, \w+ the last)?")
 
-# Says what `rt` says, and makes what it makes. Like `rt` it leaves a crate alone that has not changed since it was proved,
-# whether its product is there or not. BREAK names a crate that is not proved, CALLS is where calls are noted, MEANWHILE
-# is done while the program is proved.
+# Says what `rt` says, and makes what it makes, in the folder of the crate that it is called in. BREAK names a crate that is
+# not proved, CALLS is where calls are noted, MEANWHILE is done while the program is proved.
 STAND_IN = """#!/bin/bash
 if [ "$1" = version ]; then echo "kit ${KIT:-1}"; exit; fi
-echo "$*" >> "$CALLS"
-command=$1
-shift
-mkdir -p target/bin target/staticlib target/stamp
-for crate in "$@"; do
-    sum=$(find "crates/$crate" -type f -print0 | sort -z | xargs -0 cat | sha256sum)
-    if [ "$command" = check ] && [ "$sum" = "$(cat "target/stamp/$crate" 2> /dev/null)" ]; then
-        echo "rt: $crate proved (unchanged since it was last proved)"
-        continue
-    fi
-    echo "fn $crate::first: proved"
-    if [ "$crate" = "${BREAK:-}" ]; then
-        echo "$crate: the prover's words" >&2
-        echo "rt: $crate NOT PROVED (exit 1, 0 s)"
-        exit 1
-    fi
-    [ "$command" = staticlib ] || { echo "rt: $crate proved (0 s)"; echo "$sum" > "target/stamp/$crate"; }
-    case $command-$crate in
-    check-sazamkhri) [ -n "${MAKES_NOTHING:-}" ] || echo made > target/bin/sazamkhri; eval "${MEANWHILE:-}" ;;
-    staticlib-*) echo made > "target/staticlib/lib$crate.a" ;;
-    esac
-done
+[ -z "${RT_BACKEND:-}" ] || { echo "rt: by another compiler"; exit 2; }
+crate=$(basename "$PWD")
+echo "$crate $*" >> "$CALLS"
+mkdir -p out
+[ "$1" = lib ] || exec 3>&1 1>&2
+echo "fn $crate::first: proved"
+if [ "$crate" = "${BREAK:-}" ]; then
+    echo "$crate: the prover's words" >&2
+    echo "logic=not-proved"
+    exit 1
+fi
+case $1-$crate in
+run-sazamkhri)
+    [ -n "${MAKES_NOTHING:-}" ] || echo made > out/sazamkhri
+    eval "${MEANWHILE:-}"
+    if [ -n "${PRINTS:-}" ]; then echo "$PRINTS" >&3; elif cmp -s stdin -; then cat stdout >&3; fi ;;
+lib-host | lib-probe) echo made > "out/lib$crate.a" ;;
+esac
 """
 
 
@@ -50,7 +45,8 @@ def copy_of(place, parts):
     for part in parts:
         source = ROOT / part
         if source.is_dir():
-            shutil.copytree(source, place / part, symlinks=True, ignore=shutil.ignore_patterns("must-fail", "__pycache__"))
+            left = shutil.ignore_patterns("must-fail", "out", "__pycache__")
+            shutil.copytree(source, place / part, symlinks=True, ignore=left)
         else:
             (place / part).parent.mkdir(parents=True, exist_ok=True)
             shutil.copy2(source, place / part)
@@ -75,7 +71,7 @@ class WithStandIn(unittest.TestCase):
         )
 
     def called(self):
-        return [line.split()[0] + " " + line.split()[-1] for line in self.calls.read_text().splitlines()]
+        return self.calls.read_text().splitlines()
 
     def test_first_time_one_line_and_progress(self):
         run = self.build("program")
@@ -95,16 +91,17 @@ class WithStandIn(unittest.TestCase):
     def test_host_proves_neither_writer_nor_probe(self):
         run = self.build("host")
         self.assertEqual(run.returncode, 0)
-        words = self.calls.read_text().split()
-        self.assertIn("listing", words)
-        self.assertNotIn("writer", words)
-        self.assertNotIn("probe", words)
+        crates = [line.split()[0] for line in self.called()]
+        self.assertIn("listing", crates)
+        self.assertNotIn("writer", crates)
+        self.assertNotIn("probe", crates)
 
     def test_a_proof_that_fails_shows_all_words(self):
         run = self.build("program", BREAK="search")
         self.assertEqual(run.returncode, 1)
-        for words in ("fn order::first: proved", "search: the prover's words", "rt: search NOT PROVED"):
+        for words in ("fn order::first: proved", "search: the prover's words", "Not proved and built: search."):
             self.assertIn(words, run.stderr)
+        self.assertNotIn("join lib", self.called())
         self.assertFalse((self.place / "target" / "made" / "program").exists())
         self.assertEqual(self.build("program").returncode, 0)
 
@@ -112,6 +109,30 @@ class WithStandIn(unittest.TestCase):
         run = self.build("host", BREAK="host")
         self.assertEqual(run.returncode, 1)
         self.assertIn("host: the prover's words", run.stderr)
+
+    def test_a_crate_comes_behind_those_that_it_stands_on(self):
+        self.build("program", "host", "probe")
+        crates = [line.split()[0] for line in self.called()]
+        self.assertEqual(len(crates), len(set(crates)))
+        listed = (self.place / "crates.txt").read_text(encoding="utf-8")
+        for crate in crates:
+            uses = re.search(rf"^{crate}(?: staticlib)?:(.*)$", listed, re.M)[1].split()
+            self.assertLessEqual(set(uses), set(crates[: crates.index(crate)]), crate)
+
+    def test_products_run_on_every_processor(self):
+        self.build("program", "host", "probe")
+        for words in ("sazamkhri run", "host lib", "probe lib"):
+            self.assertIn(f"{words} --cpu x86-64", self.called())
+
+    def test_settings_of_rt_play_no_part(self):
+        self.assertEqual(self.build("program", RT_BACKEND="rattle").returncode, 0)
+
+    def test_a_program_that_prints_something_else(self):
+        run = self.build("program", PRINTS="k=1")
+        self.assertEqual(run.returncode, 1)
+        self.assertIn("prints something else than crates/sazamkhri/stdout has", run.stderr)
+        self.assertFalse((self.place / "target" / "bin" / "sazamkhri").exists())
+        self.assertEqual(self.build("program").returncode, 0)
 
     def test_whatever_changed_is_built_again(self):
         def another(path, text="changed\n"):
@@ -125,6 +146,7 @@ class WithStandIn(unittest.TestCase):
             "a new file": lambda: another(crates / "words" / "specs" / "New.antt"),
             "a lost file": lambda: (crates / "words" / "specs" / "New.antt").unlink(),
             "the stored output": lambda: another(crates / "sazamkhri" / "stdout"),
+            "what the program is told": lambda: another(crates / "sazamkhri" / "args"),
             "the product": lambda: another(self.place / "target" / "bin" / "sazamkhri"),
             "no product": lambda: (self.place / "target" / "bin" / "sazamkhri").unlink(),
         }
@@ -132,24 +154,31 @@ class WithStandIn(unittest.TestCase):
         for what, change in changes.items():
             change()
             self.build("program")
-            self.assertIn("check sazamkhri", self.called(), what)
+            self.assertIn("sazamkhri run --cpu x86-64", self.called(), what)
             self.assertEqual((self.place / "target" / "bin" / "sazamkhri").read_text(), "made\n", what)
             self.build("program")
             self.assertEqual(self.called(), [], what)
         self.build("program", KIT="2")
-        self.assertIn("check sazamkhri", self.called(), "another kit")
+        self.assertIn("sazamkhri run --cpu x86-64", self.called(), "another kit")
 
     def test_an_edit_while_it_is_proved(self):
-        run = self.build("program", MEANWHILE="echo later >> crates/order/src/lib.rt")
+        run = self.build("program", MEANWHILE="echo later >> ../order/src/lib.rt")
         self.assertEqual(run.returncode, 1)
         self.assertIn("changed while they were proved", run.stderr)
         self.assertEqual(self.build("program").returncode, 0)
-        self.assertIn("check sazamkhri", self.called())
+        self.assertIn("sazamkhri run --cpu x86-64", self.called())
 
     def test_nothing_is_made(self):
         run = self.build("program", MAKES_NOTHING="1")
         self.assertEqual(run.returncode, 1)
-        self.assertIn("rt has not made target/bin/sazamkhri", run.stderr)
+        self.assertIn("rt has not made crates/sazamkhri/out/sazamkhri", run.stderr)
+
+    def test_what_rt_made_before_is_not_taken(self):
+        self.build("program")
+        (self.place / "crates" / "sazamkhri" / "src" / "main.rt").write_text("changed\n")
+        run = self.build("program", MAKES_NOTHING="1")
+        self.assertEqual(run.returncode, 1)
+        self.assertFalse((self.place / "target" / "bin" / "sazamkhri").exists())
 
     def test_nobody_can_be_told(self):
         for end in ("2>&-", "2>/dev/full"):
@@ -187,6 +216,14 @@ class WithStandIn(unittest.TestCase):
         self.build("program")
         self.assertEqual(self.called(), [])
 
+    def test_clean_leaves_the_sources_alone(self):
+        self.calls.write_text("")
+        before = sorted(self.place.rglob("*"))
+        self.build("program", "host")
+        self.assertNotEqual(sorted(self.place.rglob("*")), before)
+        self.assertEqual(make(self.place, "clean").returncode, 0)
+        self.assertEqual(sorted(self.place.rglob("*")), before)
+
     def test_no_kit(self):
         (self.place / "tools" / "rt").unlink()
         run = subprocess.run(
@@ -210,7 +247,7 @@ class WithTheKit(unittest.TestCase):
         with tempfile.TemporaryDirectory() as name:
             place = Path(name)
             copy_of(place, ["crates", "crates.txt", "scripts", "Makefile", "examples"])
-            copy_of(place, [f"target/{part}" for part in ("bin", "rlib", "stamp", "log", "made")])
+            copy_of(place, ["target/bin", "target/made"])
             program = place / "target/bin/sazamkhri"
             program.write_text("#!/bin/sh\necho k=1\n")
             run = make(place, "list", "SHEET=examples/three.sheet")
@@ -223,7 +260,7 @@ class WithTheKit(unittest.TestCase):
         with tempfile.TemporaryDirectory() as name:
             place = Path(name)
             copy_of(place, ["crates", "crates.txt", "scripts", "Makefile", "examples"])
-            copy_of(place, [f"target/{part}" for part in ("bin", "rlib", "stamp", "log")])
+            copy_of(place, ["target/bin"])
             source = place / "crates/join/src/lib.rt"
             text = source.read_text(encoding="utf-8")
             self.assertEqual(text.count(old), 1)
@@ -231,8 +268,9 @@ class WithTheKit(unittest.TestCase):
             run = make(place, "list", "SHEET=examples/three.sheet")
         self.assertNotEqual(run.returncode, 0)
         self.assertEqual(run.stdout, "")
-        self.assertRegex(run.stderr, r"rt: join NOT PROVED")
-        self.assertRegex(run.stderr, r"proofs/\S+\.antt:\d+:\d+")
+        self.assertRegex(run.stderr, r"(?m)^fn join::\S+: (not proved|no proof)")
+        self.assertRegex(run.stderr, r"(?m)^\S*(?:src|proofs)/\S+\.(?:rt|antt):\d+:\d+: ")
+        self.assertRegex(run.stderr, r"(?m)^Not proved and built: join\.")
 
     def test_later_calls_print_the_listing_alone_within_a_second(self):
         # Processor time: on a machine that does other work besides, the clock says little.

@@ -1,6 +1,7 @@
 #!/usr/bin/env python3
-"""Tries the gate itself: it counts what passed and what failed, goes on behind a failure, and keeps its logs; the check of
-the stored sheets notices what it should; and README shows what is printed.
+"""Tries the gate itself: it counts what passed and what failed, goes on behind a failure, and keeps its logs; it takes a
+must-fail edit that no longer fits for a failure; the check of the stored sheets notices what it should; and README shows
+what is printed.
 """
 import os
 import re
@@ -11,6 +12,20 @@ import unittest
 from pathlib import Path
 
 ROOT = Path(__file__).resolve().parent.parent.parent
+
+# A small crate.
+LIBRARY = """// A library with one function.
+#![tactic(auto)]
+
+ghost use Rattle.std.specs.Prelude.{◌≡◌};
+
+// The number itself.
+pub fn same(x: u8) -> u8
+    ensures { result ≡ x }
+{
+    x
+}
+"""
 
 
 class Steps(unittest.TestCase):
@@ -63,6 +78,87 @@ class Steps(unittest.TestCase):
         run = subprocess.run(["bash", "-c", script], capture_output=True, env={**os.environ, "TMPDIR": "/nowhere"})
         self.assertNotEqual(run.returncode, 0)
         self.assertEqual(run.stdout, b"")
+
+
+class Proofs(unittest.TestCase):
+    """scripts/rt-ci.sh passes on what `rt ci` says, and fails where an edit is bad."""
+
+    OK = "rt: ok; handles allowed: none; must-fail edits: {}; every proof and must-fail edit was done in this run"
+
+    def setUp(self):
+        self.place = Path(tempfile.mkdtemp())
+        self.addCleanup(shutil.rmtree, self.place)
+        (self.place / "scripts").mkdir()
+        for script in ("rt-ci.sh", "steps.sh"):
+            shutil.copy(ROOT / "scripts" / script, self.place / "scripts" / script)
+
+    def gate(self, **more):
+        """The status of the step alone, and the gate's last line."""
+        step = f"'{self.place}/scripts/rt-ci.sh'"
+        run = subprocess.run(
+            ["bash", "-c", f". scripts/steps.sh; step proofs {step}; tally logs"],
+            cwd=self.place, capture_output=True, text=True, env={**os.environ, **more},
+        )
+        self.log = (self.place / "logs/01-proofs.log").read_text()
+        return run.returncode, run.stdout.splitlines()[-1]
+
+    def said(self, *lines, status=0):
+        """What the gate makes of these lines, from a stand-in for rt."""
+        tools = self.place / "tools"
+        tools.mkdir(exist_ok=True)
+        note = f"echo \"$PWD $*\" > '{self.place}/called'"
+        (tools / "rt").write_text("\n".join(["#!/bin/sh", note, "cat <<'END'", *lines, "END", f"exit {status}", ""]))
+        (tools / "rt").chmod(0o755)
+        return self.gate(PATH=f"{tools}:{os.environ['PATH']}")
+
+    def test_what_rt_says_counts(self):
+        ok = self.OK.format("3 refused")
+        limit = self.OK.format("3 refused, 2 of them only by a limit")
+        none = "rt: ok; handles allowed: none; every proof and must-fail edit was done in this run"
+        for lines, status, found in (
+            ((ok, "5 passed, 0 failed"), 0, (0, "5 passed, 0 failed")),
+            ((limit, "5 passed, 0 failed"), 0, (0, "5 passed, 0 failed")),
+            ((none, "2 passed, 0 failed"), 0, (0, "2 passed, 0 failed")),
+            (("rt: FAILED: join", "4 passed, 1 failed"), 1, (1, "4 passed, 1 failed")),
+            (("0 passed, 1 failed",), 2, (1, "0 passed, 1 failed")),
+            ((ok, "5 passed, 0 failed"), 1, (1, "5 passed, 1 failed")),
+            (("5 passed, 0 failed",), 0, (1, "5 passed, 1 failed")),
+            ((), 0, (1, "0 passed, 1 failed")),
+        ):
+            self.assertEqual(self.said(*lines, status=status), found, lines)
+
+    def test_a_bad_edit_is_a_failure(self):
+        for words, line in (
+            ("3 refused, 1 bad", "5 passed, 1 failed"),
+            ("3 refused, 2 of them only by a limit, 12 bad", "5 passed, 12 failed"),
+            ("0 refused, 2 bad", "5 passed, 2 failed"),
+        ):
+            self.assertEqual(self.said(self.OK.format(words), "5 passed, 0 failed"), (1, line), words)
+        last = "rt: ok; must-fail edits: 0 refused, 4 bad"
+        self.assertEqual(self.said(last, "5 passed, 0 failed"), (1, "5 passed, 4 failed"))
+
+    def test_plain_and_at_the_top(self):
+        self.said(self.OK.format("3 refused"), "5 passed, 0 failed")
+        self.assertEqual((self.place / "called").read_text(), f"{self.place} ci\n")
+
+    def test_no_kit(self):
+        (self.place / "tools").mkdir()
+        for tool in ("bash", "cat", "cp", "date", "dirname", "grep", "mkdir", "mktemp", "rm", "sed", "tail", "tee", "tr"):
+            (self.place / "tools" / tool).symlink_to(shutil.which(tool))
+        self.assertEqual(self.gate(PATH=str(self.place / "tools")), (1, "0 passed, 1 failed"))
+
+    def test_with_the_kit(self):
+        """The words of rt itself: a small crate with an edit that is refused, and then with another that fits no more."""
+        crate = self.place / "crates/one"
+        (crate / "src").mkdir(parents=True)
+        (crate / "must-fail").mkdir()
+        (crate / "src/lib.rt").write_text(LIBRARY, encoding="utf-8")
+        (crate / "must-fail/zero.edit").write_text("file: src/lib.rt\nold:     x\nnew:     0\n")
+        (self.place / "crates.txt").write_text("one:\n")
+        self.assertEqual(self.gate(), (0, "2 passed, 0 failed"))
+        (crate / "must-fail/gone.edit").write_text("file: src/lib.rt\nold:     y\nnew:     0\n")
+        self.assertEqual(self.gate(), (1, "2 passed, 1 failed"))
+        self.assertIn("must-fail one/gone.edit: BAD EDIT", self.log)
 
 
 class Runner(unittest.TestCase):

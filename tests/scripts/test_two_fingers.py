@@ -105,7 +105,7 @@ class Walks(unittest.TestCase):
     def test_the_proved_routine_counts_the_same(self):
         """The pairs that `leaves_run` hands to the proved routine, with what it printed: shared and union come last."""
         code = (ROOT / "crates/leaves_run/src/main.rt").read_text(encoding="utf-8")
-        calls = re.findall(r'say_pair\(\s*b"(\w+)",\s*&\[([\d, ]*)\],\s*&\[([\d, ]*)\],?\s*\)', code)
+        calls = re.findall(r'say_pair\(\s*out,\s*b"(\w+)",\s*&\[([\d, ]*)\],\s*&\[([\d, ]*)\],?\s*\)', code)
         told = dict(line.split(" ", 1) for line in (ROOT / "crates/leaves_run/stdout").read_text().splitlines())
         self.assertGreater(len(calls), 10)
         for name, offsets, codes in calls:
@@ -239,14 +239,14 @@ class Page(Copies):
         for name, file, old, new in (
             ("a line of the routine on the page", PAGE, "let right_card = right_row[right_finger];", "let right_card = 0;"),
             ("a comment of the routine on the page", PAGE, "    // As long as each", "    // While each"),
-            ("the contract on the page", PAGE, "(length (now xs) ≤ 4096)", "(length (now xs) ≤ 4095)"),
+            ("the contract on the page", PAGE, "(length xs.now ≤ 4096)", "(length xs.now ≤ 4095)"),
             ("a line of the table", PAGE, row, row.replace("1  The", "2  The")),
             ("a finger of the table", PAGE, row, row.replace("[4] 5 9", "4 [5] 9")),
             ("a line that is missing", PAGE, "103 105 [201] 401", "103 105 201 [401]"),
             ("the answer of the exercise", PAGE, "Shared: 4. In all", "Shared: 5. In all"),
             ("the line of the listing", PAGE, "\npair=6 9 4 6 103\n", "\npair=6 9 4 6 105\n"),
             ("a comment in the code", SOURCE, "    // As long as each", "    // While each"),
-            ("the contract in the code", SOURCE, "(length (now xs) ≤ 4096)", "(length (now xs) ≤ 4095)"),
+            ("the contract in the code", SOURCE, "(length xs.now ≤ 4096)", "(length xs.now ≤ 4095)"),
             ("an empty line in the code", SOURCE, "    let right_row = ys;\n\n", "    let right_row = ys;\n"),
             ("another listing", "examples/cemetery.listing", "pair=6 9 4 6 103", "pair=6 9 4 6 105"),
         ):
