@@ -11,7 +11,7 @@ import sys
 from pathlib import Path
 
 PAGES = ("README.md", "CONTRIBUTING.md", "CHANGELOG.md", "docs/LESSON.md", "docs/CATALOGUES.md", "docs/TWO-FINGERS.md",
-         "docs/DECISIONS.md", "docs/PROMISES.md", "docs/BENCHMARKS.md", "docs/PORT.md", "examples/refused/README.md",
+         "docs/DECISIONS.md", "docs/PROMISES.md", "docs/BENCHMARKS.md", "docs/PORT.md", "docs/DESIGN-PASS.md", "examples/refused/README.md",
          "tests/README.md", "scripts/README.md")
 # What a page may name although it is made only later, or stands for any name.
 MADE = ("target/", "crates/NAME", "crates/*", "docs/landings", "examples/refused/NAME")
@@ -73,7 +73,7 @@ def limits(root):
     wrong += differ("pairs of a listing", {
         "README.md": number(readme.find(r"^\| pairs listed \(k\) \| 1 to (\d+) \|")[0]),
         "host/sazamkhri.h": number(header.find(r"#define SAZAMKHRI_PAIRS_LIMIT (\d+)$")[0]),
-        "crates/tables": number(Text(root, "crates/tables/src/lib.rt").find(r"if k > (\d+)")[0]),
+        "crates/tables": number(Text(root, "crates/tables/src/lib.rt").find(r"if k == 0 \|\| k > (\d+)")[0]),
     })
     wrong += differ("words of an entry", {
         "README.md, refusals": number(readme.find(r"^\| 6 \| the list buffer has under (\d+)k words")[0]),

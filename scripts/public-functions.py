@@ -153,6 +153,13 @@ def meant(names, word):
     return names.get(word) == "Rattle.words.proofs.OneAnswer"
 
 
+def owner(text, at):
+    """The type whose `impl` has the function at `at`; None for a function that stands alone."""
+    if text[text.rfind("\n", 0, at) + 1 : at].strip(" ") or text[at - 1] != " ":
+        return None
+    return re.findall(r"^impl(?:<[^\n{]*>)? (\w+)", text[:at], re.M)[-1]
+
+
 def path_of(source, fn):
     """Where the kit puts what it makes for fn: below the modules of its source file, whose path is taken from src/ on."""
     modules = source.with_suffix("").parts
@@ -179,10 +186,20 @@ def view_problems(seen, names, parameters, has_result):
     return problems
 
 
+def at_any_type(statement):
+    """The statement of a generic function without its type and what bounds that: `(T : RattleType) .. → OneAnswer n (k.ps T ..) ..`."""
+    bound = r"\(\w+ : (?:RattleType|Laws \w+|IsCopy \w+|\w+\.Ghosts \w+\.Denot|Dict)\)"
+    whole = re.fullmatch(rf"((?:{bound} )+)→ (OneAnswer .*)", statement)
+    if not whole:
+        return statement
+    bound = re.findall(r"\((\w+) :", whole.group(1))
+    return re.sub(rf"\((\S+\.(?:ps|r|Post))(?: (?:{'|'.join(bound)}))+\)", r"\1", whole.group(2))
+
+
 def only_problems(path, statement, modules, names, parameters, has_result):
     """What is wrong with a statement that no second answer meets the contract of the function at that path."""
     form = r"OneAnswer \d+ (\S+)\.ps \1\.r (\S+)\.Post (?:\{B = [^{}]*\} )?\(λ κs u x\. (.*)\)"
-    said = re.fullmatch(form, statement)
+    said = re.fullmatch(form, at_any_type(statement))
     if said and meant(names, "OneAnswer") and own(modules, path, said.group(1), said.group(2)):
         return view_problems(said.group(3), names, parameters, has_result)
     fn = path.split(".")[-1]
@@ -212,7 +229,8 @@ def main(arguments):
                 count += 1
                 name = found.group(1)
                 full = f"{crate.name}::{name}"
-                path = path_of(file.relative_to(crate / "src"), name)
+                of = owner(text, found.start())
+                path = path_of(file.relative_to(crate / "src"), f"{of}.{name}" if of else name)
                 line = text.count("\n", 0, found.start()) + 1
                 parameters, has_result, clauses = header(text, found.end())
                 problems = contract_problems(parameters, has_result, clauses["ensures"])

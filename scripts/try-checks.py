@@ -142,6 +142,12 @@ def damages(root):
     yield from (
         ("a theorem over a function of the same name elsewhere in the crate", "public-functions.py",
          "crates/walk/proofs/Only.antt", swapped("proofs.two_fingers.shared_count.Reads", "proofs.shared_count.Reads")),
+        ("a theorem over another method of the type", "public-functions.py",
+         "crates/tables/proofs/Only.antt", swapped("proofs.accepted.Tables.context.Reads", "proofs.accepted.Tables.contexts.Reads")),
+        ("a theorem of a generic function with a premise among its types", "public-functions.py",
+         "crates/words/proofs/Only.antt", swapped("(C : IsCopy T)", "(C : T ≡ T)")),
+        ("a theorem of a generic function at one type", "public-functions.py",
+         "crates/words/proofs/Only.antt", swapped("(zero_from.Post T L C", "(zero_from.Post u16 L C")),
         ("a contract written out that is not tied to the code", "check-promises.py",
          "crates/pen/proofs/LineContract.antt", swapped("pub post_is :", "pub post_was :")),
         ("a contract written out that is not the one that is read from the code", "check-promises.py",

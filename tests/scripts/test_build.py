@@ -269,7 +269,7 @@ class WithTheKit(unittest.TestCase):
         self.assertNotEqual(run.returncode, 0)
         self.assertEqual(run.stdout, "")
         self.assertRegex(run.stderr, r"(?m)^fn join::\S+: (not proved|no proof)")
-        self.assertRegex(run.stderr, r"(?m)^\S*(?:src|proofs)/\S+\.(?:rt|antt):\d+:\d+: ")
+        self.assertRegex(run.stderr, r"(?m)^(?:note: )?\S*(?:src|proofs)/\S+\.(?:rt|antt):\d+:\d+: ")
         self.assertRegex(run.stderr, r"(?m)^Not proved and built: join\.")
 
     def test_later_calls_print_the_listing_alone_within_a_second(self):

@@ -105,7 +105,7 @@ class Walks(unittest.TestCase):
     def test_the_proved_routine_counts_the_same(self):
         """The pairs that `leaves_run` hands to the proved routine, with what it printed: shared and union come last."""
         code = (ROOT / "crates/leaves_run/src/main.rt").read_text(encoding="utf-8")
-        calls = re.findall(r'say_pair\(\s*out,\s*b"(\w+)",\s*&\[([\d, ]*)\],\s*&\[([\d, ]*)\],?\s*\)', code)
+        calls = re.findall(r'say_pair\(\s*rt,\s*"(\w+)",\s*&\[([\d, ]*)\],\s*&\[([\d, ]*)\],?\s*\)', code)
         told = dict(line.split(" ", 1) for line in (ROOT / "crates/leaves_run/stdout").read_text().splitlines())
         self.assertGreater(len(calls), 10)
         for name, offsets, codes in calls:

@@ -2,7 +2,7 @@
 -- From the top on, the nodes behind t have their new words, those up to t their old ones, and of those behind t / 2 and before t
 -- the two are the same.
 use mathlib.Core.List.{List}
-use mathlib.Core.Path.{◌≡◌, sym, ap, ◌∙◌}
+use mathlib.Core.Path.{◌≡◌, refl, sym, ap, ◌∙◌}
 use Prim.Native.Nat.{ℕ, ◌+◌, ◌-◌, ◌/◌, max, ◌≤◌, ◌<◌}
 use native.Mathlib.Omega.{arith}
 use lib.ListN.{length, get_or, set, length-set}
@@ -11,12 +11,12 @@ use Rattle.walk.specs.declared.Fraction.{Fraction}
 use Rattle.words.proofs.Split.{by_eq}
 use Rattle.agenda.specs.declared.Contender.{Contender}
 use Rattle.agenda.specs.Layout.{agenda_room}
-use Rattle.agenda.specs.Tournament.{left_in, leaf_word, own_word, node_word, contender_of, contender_at, NodesPlayed, Moved}
+use Rattle.agenda.specs.Tournament.{left_in, leaf_word, own_word, node_word, contender_of, contender_at, top_node, NodesPlayed, Moved}
 use Rattle.agenda.proofs.Nodes.{leaf_is, leaf_either}
 use Rattle.agenda.proofs.Contenders.{word_is}
 use Rattle.agenda.proofs.Paths.{Agrees, Apart, agrees_word, apart_leaf, apart_up, contenders_same, node_same}
 use Rattle.agenda.proofs.Ranks.{left_eq, left_kept, Framed, framed_start, framed_left, framed_set, ranked_from, ranked_set}
-use Rattle.agenda.proofs.Subtrees.{Subtree, Under, under_leaf, under_least, under_up}
+use Rattle.agenda.proofs.Subtrees.{Subtree, subtree, Under, under_leaf, under_least, under_up}
 
 pub record Climbing (top : ℕ) (start now : List ℕ) (t : ℕ) : Type 0 where
   pub ranked : NodesPlayed (max t (top - 1)) now
@@ -130,8 +130,25 @@ ascending_next {top} {start} {now} {t} a h {r} e =
       hand = e ∙ contenders_same (left_in now) (left_in after) (λ w k. sym (left_kept now (514 + t / 2) r.word (omega arith) w k)) (t / 2) (omega arith) (omega arith);
     }
 
-pub leaf_room : {y : ℕ} {old : List ℕ} → NodesPlayed y old → (w x : ℕ) → w ≤ 256 → 769 + w < length (set old w x)
-leaf_room {y} {old} R w x h = omega (arith, R.room, length-set old w x)
+-- ---- the context c, one of n, whose word is w
 
-pub leaf_inside : (x w : ℕ) {own : ℕ} → own ≡ leaf_word x w → w ≤ 256 → own ≤ 256
-leaf_inside x w e h = rw e (leaf_either (λ v. v ≤ 256) x w (omega arith) h)
+module _ {old : List ℕ} {n c : ℕ} (h : (c < n) × (n ≤ 256)) (R : NodesPlayed (top_node n - 1) old) {w : ℕ} (q : w ≡ c + 1) {own : ℕ} (is : own ≡ leaf_word (get_or old w 0 - 1) (c + 1)) where
+  own_is : own ≡ leaf_word (get_or old w 0 - 1) w
+  own_is = is ∙ ap (leaf_word (get_or old w 0 - 1)) (sym q)
+
+  -- what is asked of its leaf
+  pub moving_room : agenda_room ≤ length (lessened old w (get_or old w 0 - 1) own)
+  moving_room = omega (arith, R.room, lessened_long (subtree n h.1) R w (omega arith) (omega (arith, h.0, h.1)) (get_or old w 0 - 1) own_is)
+
+  pub moving_word : own ≤ 256
+  moving_word = rw own_is (leaf_either (λ v. v ≤ 256) (get_or old w 0 - 1) w (omega arith) (omega (arith, h.0, h.1)))
+
+  pub moving_start : {best : Contender} → best ≡ contender_of (left_in (lessened old w (get_or old w 0 - 1) own)) own
+      → Ascending (top_node n) (lessened old w (get_or old w 0 - 1) own) (lessened old w (get_or old w 0 - 1) own) (255 + w) best
+  moving_start e = ascending_start (subtree n h.1) R w (omega arith) (omega (arith, h.0, h.1)) (get_or old w 0 - 1) own_is e (omega (arith, h.0))
+
+  pub moving_end : {now : List ℕ} {t : ℕ} {best : Contender} → Ascending (top_node n) (lessened old w (get_or old w 0 - 1) own) now t best → t ≤ top_node n → Moved (top_node n) (c + 1) old now
+  moving_end a l = rw (← q) (climbing_end (subtree n h.1) R w (omega arith) (omega (arith, h.0, h.1)) (get_or old w 0 - 1) own_is a.climbing (omega (arith, l, a.climbing.low)) refl)
+
+-- the laws of `move_on`
+pub ruleset moving = (moving_start, moving_end)

@@ -16,7 +16,7 @@ use Rattle.words.proofs.Lists.{get_elem?_is, get_elem?_none}
 use Rattle.words.proofs.Split.{by_le}
 use Rattle.tables.specs.Sound.{Sound}
 use Rattle.tables.proofs.Sound.{contexts_are}
-use Rattle.agenda.specs.declared.Next.TheVariants.{At, Over}
+use Rattle.agenda.specs.Next.{At, Over}
 use Rattle.agenda.specs.Next.{next_is, event_is, no_event}
 use Rattle.agenda.proofs.Counts.{event_at, next_occurs}
 

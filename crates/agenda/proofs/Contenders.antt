@@ -2,10 +2,11 @@
 -- the second stands before the first. The laws of `leaf_word`, `ahead`, `play` and `play_on`.
 use mathlib.Core.Bool.{true, false}
 use mathlib.Core.Path.{◌≡◌, refl, sym, ap, ap₂, ◌∙◌}
-use Prim.Native.Nat.{ℕ, ◌+◌, ◌-◌, ◌*◌, ◌/◌, ◌≤◌, ◌<◌}
-use native.Mathlib.Nat.{mul-le-mul_right}
+use Prim.Native.Nat.{ℕ, ◌+◌, ◌*◌, ◌/◌, ◌%◌, ◌≤◌, ◌<◌}
 use native.Mathlib.Omega.{arith}
-use borrow.Author.Tests.{lt-ltb, le-ltb, eq-eqb, ne_eqb, ltb-true, ltb-false}
+use borrow.Author.Tests.{lt-ltb, le-ltb, eq-eqb, ltb-true, ltb-false}
+use Rattle.std.specs.Int.Bits.{bit_xor, xor_add_and}
+use Rattle.std.proofs.lemmas.Nat.{and_mask}
 use Rattle.order.proofs.Lists.{cases}
 use Rattle.walk.specs.declared.Fraction.{Fraction}
 use Rattle.walk.specs.Fractions.{lower}
@@ -21,9 +22,10 @@ module _ (left w : ℕ) where
   unfolding leaf_word
   leaf_none e = rw (eq-eqb left 0 e)
 
-  pub leaf_some : (left ≡ 0 → ⊥) → w ≡ leaf_word left w
-  unfolding leaf_word
-  leaf_some d = rw (ne_eqb left 0 d)
+-- ---- the node beside t
+
+pub beside_is : (t : ℕ) → bit_xor t 1 + 2 * (t % 2) ≡ t + 1
+beside_is t = omega (arith, xor_add_and t 1, and_mask t 1)
 
 -- ---- who is ahead
 
@@ -84,22 +86,20 @@ module _ (f : ℕ → Fraction) where
     played p q e g k = ap (λ (c : Contender). c.word) (k ∙ ap₂ (ahead_by 0) (e ∙ ap (contender_of f) p) (g ∙ ap (contender_of f) q) ∙ sym above_even) ∙ word_is (node_word f t)
 
   -- from one of them and the one beside it
-  pub played_on : (t : ℕ) → 1 < t → t < 512 → {w : ℕ} {x y r : Contender} → x ≡ contender_at f t → w ≡ node_word f (4 * (t / 2) + 1 - t) → y ≡ contender_of f w → r ≡ ahead_by (t - 2 * (t / 2)) x y → r ≡ contender_at f (t / 2)
+  pub played_on : (t : ℕ) → 1 < t → t < 512 → {w : ℕ} {x y r : Contender} → x ≡ contender_at f t → w ≡ node_word f (bit_xor t 1) → y ≡ contender_of f w → r ≡ ahead_by (t % 2) x y → r ≡ contender_at f (t / 2)
   played_on t h l {w} {x} {y} {r} e q p g =
       let up = t / 2 in
-      let k : y ≡ contender_at f (4 * up + 1 - t) = p ∙ ap (contender_of f) q in
+      let k : y ≡ contender_at f (bit_xor t 1) = p ∙ ap (contender_of f) q in
       by_eq t (2 * up)
       (λ z.
-      let m : t - 2 * up ≡ 0 = omega arith in
-      let b : 4 * up + 1 - t ≡ 2 * up + 1 = omega arith in
+      let m : t % 2 ≡ 0 = omega arith in
+      let b : bit_xor t 1 ≡ 2 * up + 1 = omega (arith, beside_is t) in
       g ∙ ap (λ (i : ℕ). ahead_by i x y) m ∙ ap₂ (ahead_by 0) (e ∙ ap (λ (i : ℕ). contender_at f i) z) (k ∙ ap (λ (i : ℕ). contender_at f i) b) ∙ sym (above_even up (omega arith) (omega arith)))
       (λ d.
       let z : t ≡ 2 * up + 1 = omega (arith, d) in
-      let m : t - 2 * up ≡ 1 = omega arith in
-      let b : 4 * up + 1 - t ≡ 2 * up = omega arith in
+      let m : t % 2 ≡ 1 = omega arith in
+      let b : bit_xor t 1 ≡ 2 * up = omega (arith, beside_is t) in
       g ∙ ap (λ (i : ℕ). ahead_by i x y) m ∙ ap₂ (ahead_by 1) (e ∙ ap (λ (i : ℕ). contender_at f i) z) (k ∙ ap (λ (i : ℕ). contender_at f i) b) ∙ sym (above_odd up (omega arith) (omega arith)))
 
--- ---- the product of two numbers of 16 bits, and one more, fits into 32
-
-pub one_more : (x y m : ℕ) → x < 65536 → y < 65536 → m ≤ 1 → x * y + m < 4294967296
-one_more x y m h k l = let a : x ≤ 65535 = omega arith in omega (arith, mul-le-mul_right y a, k, l)
+-- the laws of `play` and `play_on`
+pub ruleset playing = (beside_is, played, played_on)

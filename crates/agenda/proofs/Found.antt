@@ -15,37 +15,34 @@ use Rattle.trail.proofs.Frontier.{next_of, frontier_next, frontier_end}
 use Rattle.words.proofs.Lists.{get_elem?_is, get_elem?_none}
 use Rattle.tables.specs.Sound.{Sound}
 use Rattle.tables.proofs.Sound.{size_small, contexts_are}
-use Rattle.agenda.specs.declared.Next.TheVariants.{At, Over}
+use Rattle.agenda.specs.Next.{At, Over}
 use Rattle.agenda.specs.Agenda.{first_events, count_in, Agenda}
 use Rattle.walk.specs.declared.Fraction.{Fraction}
 use Rattle.agenda.specs.Tournament.{left_of, left_in, top_node, NodesPlayed}
 use Rattle.agenda.specs.Next.{next_is, no_event}
 use Rattle.agenda.proofs.Counts.{split_at, event_at, left_is as rest_is, frontier}
-use Rattle.agenda.proofs.Standing.{left_at, node_at, top_same, top_tree}
+use Rattle.agenda.proofs.Standing.{left_at, node_at, top_tree}
 use Rattle.agenda.proofs.Winners.{First, left_inside, top_first}
 use Rattle.agenda.proofs.Paths.{node_same}
 
 module _ {os cs work : List ℕ} {j : ℕ} (s : Sound os cs) (A : Agenda (site_of os cs) j work) where
   -- the nodes from the top on have their words
-  pub all_ranked : NodesPlayed (top_node (length os - 1) - 1) work
+  pub all_ranked : NodesPlayed (top_node (length (site_of os cs)) - 1) work
   all_ranked =
       let f = left_of (site_of os cs) (count_in (first_events (site_of os cs) j)) in
       let low = (top_tree s).low in
-      rw (top_same s) (record { room = A.room; nodes = λ t z h. node_at s A t (omega arith) h ∙ node_same f (left_in work) (λ w k. sym (left_at s A w k)) t (omega arith) h })
+      record { room = A.room; nodes = λ t z h. node_at s A t (omega arith) h ∙ node_same f (left_in work) (λ w k. sym (left_at s A w k)) t (omega arith) h }
 
--- read from the top
-module _ {os cs work : List ℕ} {j : ℕ} (s : Sound os cs) (A : Agenda (site_of os cs) j work) {top : ℕ} (is : top ≡ top_node (length os - 1)) where
+-- read from the top of n contexts
+module _ {os cs work : List ℕ} {j : ℕ} (s : Sound os cs) (A : Agenda (site_of os cs) j work) {n top : ℕ} (m : n ≡ length (site_of os cs)) (is : top ≡ top_node n) where
   abbrev word : ℕ
   word = get_or work (514 + top) 0
-
-  pub top_few : top ≤ 8
-  top_few = omega (arith, is, top_same s, (top_tree s).high)
 
   -- its word is that of the first of all contexts
   top_is_first : First (site_of os cs) (count_in (first_events (site_of os cs) j)) 0 (length (site_of os cs)) word
   top_is_first =
       let T = top_tree s in
-      rw (is, top_same s, node_at s A (top_node (length (site_of os cs))) (omega arith) (omega (arith, T.high))) (top_first (site_of os cs) (count_in (first_events (site_of os cs) j)) T)
+      rw (is, m, node_at s A (top_node (length (site_of os cs))) (omega arith) (omega (arith, T.high))) (top_first (site_of os cs) (count_in (first_events (site_of os cs) j)) T)
 
   -- nothing is left
   pub found_over : word ≡ 0 → Over ≡ next_is (get_elem? (events_of in_use (site_of os cs)) j)
@@ -55,18 +52,21 @@ module _ {os cs work : List ℕ} {j : ℕ} (s : Sound os cs) (A : Agenda (site_o
       rw (get_elem?_none (events_of in_use site) j (omega (arith, length-drop j (events_of in_use site), ap length none)))
 
   -- the next place of the context that it names
-  module _ (d : word ≡ 0 → ⊥) where
+  module _ (d : word ≡ 0 → ⊥) {w : ℕ} (q : w ≡ word) where
     some_left : count_in (first_events (site_of os cs) j) (pred word) < size_of (site_of os cs) (pred word)
     some_left = (top_is_first.inside (omega (arith, d))).2
 
-    pub found_inside : word < length os
-    found_inside = omega (arith, d, contexts_are s, left_inside (site_of os cs) (pred word) some_left)
+    word_few : word < length os
+    word_few = omega (arith, d, contexts_are s, left_inside (site_of os cs) (pred word) some_left)
+
+    pub found_inside : 257 + w < length work
+    found_inside = omega (arith, q, word_few, s.few, A.room)
 
     -- what is left of it
     left_is : left_in work word ≡ left_of (site_of os cs) (count_in (first_events (site_of os cs) j)) (suc (pred word))
     left_is =
         let e : word ≡ suc (pred word) = omega (arith, d) in
-        left_at s A word (omega (arith, found_inside, s.few)) ∙ ap (left_of (site_of os cs) (count_in (first_events (site_of os cs) j))) e
+        left_at s A word (omega (arith, word_few, s.few)) ∙ ap (left_of (site_of os cs) (count_in (first_events (site_of os cs) j))) e
 
     num_is : get_or work word 0 ≡ size_of (site_of os cs) (pred word) - count_in (first_events (site_of os cs) j) (pred word)
     unfolding left_of
@@ -76,14 +76,14 @@ module _ {os cs work : List ℕ} {j : ℕ} (s : Sound os cs) (A : Agenda (site_o
     unfolding left_of
     den_is = ap (λ (x : Fraction). x.den) left_is
 
-    pub found_within : get_or work word 0 ≤ get_or work (257 + word) 0
-    found_within = omega (arith, num_is, den_is)
+    pub found_within : get_or work w 0 ≤ get_or work (257 + w) 0
+    found_within = rw q (omega (arith, num_is, den_is))
 
-    count_is : get_or work (257 + word) 0 - get_or work word 0 ≡ count_in (first_events (site_of os cs) j) (pred word)
-    count_is = omega (arith, num_is, den_is, some_left)
+    count_is : get_or work (257 + w) 0 - get_or work w 0 ≡ count_in (first_events (site_of os cs) j) (pred word)
+    count_is = rw q (omega (arith, num_is, den_is, some_left))
 
-    pub found_small : get_or work (257 + word) 0 - get_or work word 0 < 4096
-    found_small = omega (arith, count_is, some_left, size_small s (pred word) (omega (arith, d, found_inside)))
+    pub found_small : get_or work (257 + w) 0 - get_or work w 0 < 4096
+    found_small = omega (arith, count_is, some_left, size_small s (pred word) (omega (arith, d, word_few)))
 
     next_is_lem : (j < length (events_of in_use (site_of os cs))) × (event_at (site_of os cs) j ≡ next_of (count_in (first_events (site_of os cs) j)) (pred word))
     next_is_lem =
@@ -96,9 +96,12 @@ module _ {os cs work : List ℕ} {j : ℕ} (s : Sound os cs) (A : Agenda (site_o
         let e = rest_is site j more in
         (more, cc (e, f.1))
 
-    pub found_at : At (record { 0 = word - 1 }) (record { 0 = get_or work (257 + word) 0 - get_or work word 0 + 1 }) ≡ next_is (get_elem? (events_of in_use (site_of os cs)) j)
+    pub found_at : At (record { 0 = word - 1 }) (record { 0 = get_or work (257 + w) 0 - get_or work w 0 + 1 }) ≡ next_is (get_elem? (events_of in_use (site_of os cs)) j)
     found_at =
         let site = site_of os cs in
         let number : word - 1 ≡ pred word = omega arith in
-        let place : get_or work (257 + word) 0 - get_or work word 0 + 1 ≡ suc (count_in (first_events site j) (pred word)) = omega (arith, count_is) in
+        let place : get_or work (257 + w) 0 - get_or work w 0 + 1 ≡ suc (count_in (first_events site j) (pred word)) = omega (arith, count_is) in
         rw (place, number, get_elem?_is (events_of in_use site) j no_event next_is_lem.0) (sym (ap (λ (e : Event). next_is (some e)) next_is_lem.1))
+
+-- the laws of `next_event`
+pub ruleset finding = (found_over, found_inside, found_within, found_small, found_at)

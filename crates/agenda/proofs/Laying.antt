@@ -1,9 +1,8 @@
--- The contexts are laid out, one after the other, with no event done: the invariant of `lay_contexts`.
+-- The contexts are laid out, one after the other, with no event done: the invariant of `lay_contexts` is `Laying`.
 -- It rests on the starts that `sum_starts` has made (Prepared).
 use mathlib.Core.List.{List, [], map}
-use mathlib.Core.Path.{◌≡◌, refl, sym, ap, ◌∙◌}
+use mathlib.Core.Path.{◌≡◌, sym, ap, ◌∙◌}
 use Prim.Native.Nat.{ℕ, suc, pred, ◌+◌, ◌-◌, ◌≤◌, ◌<◌}
-use native.Mathlib.Numerals.{add-one}
 use native.Mathlib.Omega.{arith}
 use lib.ListN.{length, get_or, set, replicate, length-set, length-replicate, get_or-append, get_or-eq_default}
 use lib.Seq.{get_or-set_same, get_or-set_other, get_or-append-add}
@@ -11,11 +10,11 @@ use Rattle.site.specs.Site.{Site, size_of, up_to}
 use Rattle.site.specs.Tables.{site_of}
 use Rattle.walk.specs.declared.Fraction.{Fraction}
 use Rattle.tables.specs.Sound.{Sound}
-use Rattle.tables.proofs.Sound.{contexts_are, context_size}
+use Rattle.tables.proofs.Sound.{contexts_are, offset_rises, context_size}
 use Rattle.words.specs.Words.{Holds}
 use Rattle.words.proofs.Words.{padded_at, padded_none}
 use Rattle.words.proofs.Split.{by_eq, by_le}
-use Rattle.agenda.specs.Agenda.{summed, summed_to, LaidOut}
+use Rattle.agenda.specs.Agenda.{summed, summed_to, SummedTo, LaidOut}
 use Rattle.agenda.specs.Layout.{agenda_room}
 use Rattle.agenda.specs.Tournament.{left_of, left_in, leaf_word, own_word}
 use Rattle.agenda.proofs.Nodes.{leaf_is}
@@ -64,101 +63,97 @@ module _ (cs : List ℕ) {work : List ℕ} (h : Holds work (summed_to 4096 cs)) 
   unfolding summed_to
   starts_there i = let zeros : List ℕ = replicate 1026 0 in let e : length zeros ≡ 1026 = length-replicate {A = ℕ} 1026 0 in read (1026 + i) ∙ rw (← e) (get_or-append-add zeros (map (summed 4096 cs) (up_to 4097)) i 0)
 
--- ---- i contexts
+-- ---- the contexts of the words below i
 
-pub record Laying (os cs old now : List ℕ) (i : ℕ) : Type 0 where
-  pub sound : Sound os cs
+pub record Laying (os cs now : List ℕ) (i : ℕ) : Type 0 where
   pub room : agenda_room ≤ length now
-  pub long : length now ≡ length old
-  pub passed : i + 1 ≤ length os
-  pub few : length os ≤ 257
-  pub lefts : (w : ℕ) → w ≤ i → left_in now w ≡ left_of (site_of os cs) (λ k. 0) w
-  pub bare : (w : ℕ) → i < w → w ≤ 256 → left_in now w ≡ nothing
+  pub lefts : (w : ℕ) → w < i → left_in now w ≡ left_of (site_of os cs) (λ k. 0) w
+  pub bare : (w : ℕ) → i ≤ w → w ≤ 256 → left_in now w ≡ nothing
   pub leaves : (w : ℕ) → 0 < w → w ≤ 256 → get_or now (769 + w) 0 ≡ own_word (left_in now) w
   pub none : (t : ℕ) → t < 256 → get_or now (514 + t) 0 ≡ 0
   pub behind : (k : ℕ) → get_or now (1026 + k) 0 ≡ get_or (map (summed 4096 cs) (up_to 4097)) k 0
 
-module _ {os cs work : List ℕ} (s : Sound os cs) (room : agenda_room ≤ length work) (h : Holds work (summed_to 4096 cs)) where
+module _ {cs work : List ℕ} (h : SummedTo 4096 cs work) where
   abbrev pub one : List ℕ
   one = set work 257 1
 
   one_bare : (i : ℕ) → i < 1026 → (i ≡ 257 → ⊥) → get_or one i 0 ≡ 0
-  one_bare i l d = get_or-set_other work 257 i 1 0 d ∙ front_bare cs h i l
+  one_bare i l d = get_or-set_other work 257 i 1 0 d ∙ front_bare cs h.holds i l
 
-  one_none : (site : Site) (w : ℕ) → w ≤ 0 → left_in one w ≡ left_of site (λ k. 0) w
+  one_none : (site : Site) (w : ℕ) → w < 1 → left_in one w ≡ left_of site (λ k. 0) w
   unfolding left_of
-  one_none site w l = let e : w ≡ 0 = omega arith in rw e (left_eq (one_bare 0 (omega arith) (λ z. omega arith)) (get_or-set_same work 257 1 0 (omega arith)))
+  one_none site w l = let e : w ≡ 0 = omega arith in rw e (left_eq (one_bare 0 (omega arith) (λ z. omega arith)) (get_or-set_same work 257 1 0 (omega (arith, h.room))))
 
-  pub laying_start : Laying os cs one one 0
-  laying_start = record {
-    sound = s;
-    room = omega (arith, length-set work 257 1);
-    long = refl;
-    passed = omega (arith, s.some);
-    few = s.few;
+  pub laying_start : (os : List ℕ) → Laying os cs one 1
+  laying_start os = record {
+    room = omega (arith, h.room, length-set work 257 1);
     lefts = one_none (site_of os cs);
     bare = λ w a b. left_eq (one_bare w (omega arith) (λ z. omega arith)) (one_bare (257 + w) (omega arith) (λ z. omega arith));
     leaves = λ w a b. one_bare (769 + w) (omega arith) (λ z. omega arith) ∙ leaf_none (get_or one w 0) w (one_bare w (omega arith) (λ z. omega arith));
     none = λ t l. one_bare (514 + t) (omega arith) (λ z. omega arith);
-    behind = λ k. get_or-set_other work 257 (1026 + k) 1 0 (λ z. omega arith) ∙ starts_there cs h k;
+    behind = λ k. get_or-set_other work 257 (1026 + k) 1 0 (λ z. omega arith) ∙ starts_there cs h.holds k;
   }
 
-module _ {os cs old now : List ℕ} {i : ℕ} (w : Laying os cs old now i) where
-  module _ (h : i + 1 < length os) (size : ℕ) (q : size ≡ get_or os (i + 1) 0 - get_or os i 0) where
-    inside : i + 1 ≤ 256
-    inside = omega (arith, h, w.few)
+module _ {os cs now : List ℕ} {i : ℕ} (s : Sound os cs) (w : Laying os cs now i) where
+  module _ (h : 1 ≤ i) (l : i < length os) where
+    pub laying_rises : get_or os (i - 1) 0 ≤ get_or os i 0
+    laying_rises = let q : i - 1 + 1 ≡ i = omega arith in rw q at (offset_rises s (i - 1) (omega arith))
+
+    inside : i ≤ 256
+    inside = omega (arith, l, s.few)
+
+    abbrev size : ℕ
+    size = get_or os i 0 - get_or os (i - 1) 0
 
     abbrev then : List ℕ
-    then = laid_at now (i + 1) size
+    then = laid_at now i size
 
-    left_here : left_in then (i + 1) ≡ left_of (site_of os cs) (λ k. 0) (i + 1)
+    left_here : left_in then i ≡ left_of (site_of os cs) (λ k. 0) i
     unfolding left_of
     left_here =
-        let e : size ≡ size_of (site_of os cs) i = q ∙ sym (context_size w.sound i h) in
-        let d : size ≡ size_of (site_of os cs) i - 0 = omega (arith, e) in
-        left_eq (laid_num now w.room (i + 1) size inside) (laid_den now w.room (i + 1) size inside) ∙ rw (add-one i) (left_eq d e)
+        let q : suc (i - 1) ≡ i = omega arith in
+        let q' : i - 1 + 1 ≡ i = omega arith in
+        let e : size ≡ size_of (site_of os cs) (i - 1) = sym (rw q' at (context_size s (i - 1) (omega arith))) in
+        let d : size ≡ size_of (site_of os cs) (i - 1) - 0 = omega (arith, e) in
+        left_eq (laid_num now w.room i size inside) (laid_den now w.room i size inside) ∙ left_eq d e ∙ ap (left_of (site_of os cs) (λ k. 0)) q
 
-    left_other : (v : ℕ) → v ≤ 256 → (v ≡ i + 1 → ⊥) → left_in then v ≡ left_in now v
-    left_other v l d =
+    left_other : (v : ℕ) → v ≤ 256 → (v ≡ i → ⊥) → left_in then v ≡ left_in now v
+    left_other v b d =
         let few = inside in
-        left_eq (laid_kept now w.room (i + 1) size inside v d (λ z. omega arith) (λ z. omega arith)) (laid_kept now w.room (i + 1) size inside (257 + v) (λ z. omega arith) (λ z. d (omega arith)) (λ z. omega arith))
+        left_eq (laid_kept now w.room i size inside v d (λ z. omega arith) (λ z. omega arith)) (laid_kept now w.room i size inside (257 + v) (λ z. omega arith) (λ z. d (omega arith)) (λ z. omega arith))
 
     leaf_here : (v : ℕ) → 0 < v → v ≤ 256 → get_or then (769 + v) 0 ≡ own_word (left_in then) v
-    leaf_here v a b = by_eq v (i + 1)
-        (λ (e : v ≡ i + 1). rw e (laid_leaf now w.room (i + 1) size inside ∙ ap (λ (x : ℕ). leaf_word x (i + 1)) (sym (laid_num now w.room (i + 1) size inside))))
-        (λ d. let few = inside in laid_kept now w.room (i + 1) size inside (769 + v) (λ z. omega arith) (λ z. omega arith) (λ z. d (omega arith)) ∙ w.leaves v a b ∙ ap (λ (x : Fraction). leaf_word x.num v) (sym (left_other v b d)))
+    leaf_here v a b = by_eq v i
+        (λ (e : v ≡ i). rw e (laid_leaf now w.room i size inside ∙ ap (λ (x : ℕ). leaf_word x i) (sym (laid_num now w.room i size inside))))
+        (λ d. let few = inside in laid_kept now w.room i size inside (769 + v) (λ z. omega arith) (λ z. omega arith) (λ z. d (omega arith)) ∙ w.leaves v a b ∙ ap (λ (x : Fraction). leaf_word x.num v) (sym (left_other v b d)))
 
-    laying_then : Laying os cs old then (i + 1)
-    laying_then =
+    pub laying_next : Laying os cs then (i + 1)
+    laying_next =
         let few = inside in
         record {
-          sound = w.sound;
-          room = omega (arith, w.room, laid_long now w.room (i + 1) size inside);
-          long = laid_long now w.room (i + 1) size inside ∙ w.long;
-          passed = omega arith;
-          few = w.few;
-          lefts = λ v l. by_eq v (i + 1) (λ (e : v ≡ i + 1). rw e left_here) (λ d. left_other v (omega arith) d ∙ w.lefts v (omega (arith, d)));
+          room = omega (arith, w.room, laid_long now w.room i size inside);
+          lefts = λ v a. by_eq v i (λ (e : v ≡ i). rw e left_here) (λ d. left_other v (omega arith) d ∙ w.lefts v (omega (arith, d)));
           bare = λ v a b. left_other v b (λ z. omega arith) ∙ w.bare v (omega arith) b;
           leaves = leaf_here;
-          none = λ t l. laid_kept now w.room (i + 1) size inside (514 + t) (λ z. omega arith) (λ z. omega arith) (λ z. omega arith) ∙ w.none t l;
-          behind = λ k. laid_kept now w.room (i + 1) size inside (1026 + k) (λ z. omega arith) (λ z. omega arith) (λ z. omega arith) ∙ w.behind k;
+          none = λ t a. laid_kept now w.room i size inside (514 + t) (λ z. omega arith) (λ z. omega arith) (λ z. omega arith) ∙ w.none t a;
+          behind = λ k. laid_kept now w.room i size inside (1026 + k) (λ z. omega arith) (λ z. omega arith) (λ z. omega arith) ∙ w.behind k;
         }
-
-    pub laying_next : {after : List ℕ} → after ≡ laid_at now (i + 1) size → Laying os cs old after (i + 1)
-    laying_next {after} e = rw e laying_then
 
   -- beyond the last there is nothing
   left_beyond : (k : ℕ) → length (site_of os cs) ≤ k → nothing ≡ left_of (site_of os cs) (λ k. 0) (suc k)
   unfolding left_of
   left_beyond k h = let e = beyond (site_of os cs) k h in left_eq (omega (arith, e)) (sym e)
 
-  pub laying_end : length os ≤ i + 1 → LaidOut (site_of os cs) cs now
-  laying_end h = record {
+  pub laying_end : 1 ≤ i → length os ≤ i → LaidOut (site_of os cs) cs now
+  laying_end z h = record {
     ranked = record {
       room = w.room;
       nodes = λ t a b. let e : 514 + t ≡ 769 + (t - 255) = omega arith in rw e (w.leaves (t - 255) (omega arith) (omega arith) ∙ sym (leaf_is (left_in now) t (omega arith)));
     };
-    lefts = λ v l. by_le v i (λ m. w.lefts v m) (λ m. let e : suc (pred v) ≡ v = omega arith in w.bare v m l ∙ left_beyond (pred v) (omega (arith, h, contexts_are w.sound)) ∙ ap (left_of (site_of os cs) (λ k. 0)) e);
+    lefts = λ v l. by_le i v (λ m. let e : suc (pred v) ≡ v = omega arith in w.bare v m l ∙ left_beyond (pred v) (omega (arith, h, contexts_are s)) ∙ ap (left_of (site_of os cs) (λ k. 0)) e) (λ m. w.lefts v m);
     none = w.none;
     behind = w.behind;
   }
+
+-- the laws of `lay_contexts`
+pub ruleset layings = (laying_start, laying_rises, laying_next, laying_end)

@@ -1,7 +1,7 @@
 -- The events done at a code, read from its bucket: what `posted_at` tells.
 -- A word of the bucket is one more than a context's number, or 0 where no event is done yet.
 use mathlib.Core.List.{List, map}
-use mathlib.Core.Path.{◌≡◌, ◌∙◌}
+use mathlib.Core.Path.{◌≡◌, ap, ◌∙◌}
 use Prim.Native.Nat.{ℕ, suc, ◌+◌, ◌-◌, ◌≤◌, ◌<◌}
 use native.Mathlib.Omega.{arith}
 use lib.ListN.{length, get_or, get_elem?, length-map, get_or-eq_default}
@@ -19,9 +19,9 @@ use Rattle.site.proofs.Events.{in_occurs}
 use Rattle.tables.specs.Sound.{Sound}
 use Rattle.words.proofs.Lists.{map_at, get_elem?_is, get_elem?_none}
 use Rattle.words.proofs.Split.{by_le}
-use Rattle.agenda.specs.declared.Posted.TheVariants.{At, Over}
+use Rattle.agenda.specs.Postings.{At, Over}
 use Rattle.agenda.specs.Agenda.{first_events, posted_of, Agenda}
-use Rattle.agenda.specs.Postings.{often, mark, posted_is}
+use Rattle.agenda.specs.Postings.{often, codes_below, mark, posted_is}
 use Rattle.agenda.specs.Next.{no_event}
 use Rattle.agenda.proofs.Counting.{often_few}
 use Rattle.agenda.proofs.Standing.{posted_few, start_at, end_at, mark_at, bucket_inside}
@@ -61,31 +61,38 @@ module _ (events : List Event) (n : ℕ) where
       (λ h. absurd (z (e ∙ mark_none h)))
       (λ h. let c : word - 1 ≡ (get_or events n no_event).context = omega (arith, e, mark_here h) in rw c (one_posted h))
 
--- ---- the bucket of code x
+-- ---- the bucket of a code, whose word is x
 
-module _ {os cs : List ℕ} (s : Sound os cs) {j : ℕ} {work : List ℕ} (A : Agenda (site_of os cs) j work) {x : ℕ} (h : x < 4096) where
-  pub bucket_rises : get_or work (1026 + x) 0 ≤ get_or work (1027 + x) 0
-  bucket_rises = omega (arith, start_at s A x (omega arith), end_at s A x h)
+module _ {os cs : List ℕ} (s : Sound os cs) {j : ℕ} {work : List ℕ} (A : Agenda (site_of os cs) j work) {code : ℕ} (h : code < 4096)
+    {x start end : ℕ} (e : x ≡ code) (a : start ≡ get_or work (1026 + x) 0) (b : end ≡ get_or work (1027 + x) 0) where
+  starts_at : start ≡ codes_below cs code
+  starts_at = a ∙ ap (λ (y : ℕ). get_or work (1026 + y) 0) e ∙ start_at s A code (omega arith)
+
+  ends_at : end ≡ codes_below cs code + often cs code
+  ends_at = b ∙ ap (λ (y : ℕ). get_or work (1027 + y) 0) e ∙ end_at s A code h
+
+  pub bucket_rises : start ≤ end
+  bucket_rises = omega (arith, starts_at, ends_at)
 
   -- behind its end
-  pub behind_bucket : (n : ℕ) → get_or work (1027 + x) 0 - get_or work (1026 + x) 0 ≤ n → Over ≡ posted_is (get_elem? (posted_of (site_of os cs) j x) n)
-  behind_bucket n k = none_posted (posted_of (site_of os cs) j x) n (omega (arith, posted_few s j x, start_at s A x (omega arith), end_at s A x h))
+  pub behind_bucket : {n : ℕ} → end - start ≤ n → Over ≡ posted_is (get_elem? (posted_of (site_of os cs) j code) n)
+  behind_bucket {n} k = none_posted (posted_of (site_of os cs) j code) n (omega (arith, k, posted_few s j code, starts_at, ends_at))
 
-  module _ (n : ℕ) (k : n < get_or work (1027 + x) 0 - get_or work (1026 + x) 0) where
-    within : n < often cs x
-    within = omega (arith, start_at s A x (omega arith), end_at s A x h)
+  module _ {n : ℕ} (k : n < end - start) where
+    within : n < often cs code
+    within = omega (arith, starts_at, ends_at)
 
-    pub word_inside : 5123 + get_or work (1026 + x) 0 + n < length work
-    word_inside = omega (arith, start_at s A x (omega arith), bucket_inside s A x n h within)
+    pub word_inside : 5123 + start + n < length work
+    word_inside = omega (arith, starts_at, bucket_inside s A code n h within)
 
-    word_is : get_or work (5123 + get_or work (1026 + x) 0 + n) 0 ≡ get_or (map mark (posted_of (site_of os cs) j x)) n 0
-    word_is = rw (start_at s A x (omega arith)) (mark_at s A x n h within)
+    word_is : get_or work (5123 + start + n) 0 ≡ get_or (map mark (posted_of (site_of os cs) j code)) n 0
+    word_is = rw starts_at (mark_at s A code n h within)
 
-    pub word_empty : get_or work (5123 + get_or work (1026 + x) 0 + n) 0 ≡ 0 → Over ≡ posted_is (get_elem? (posted_of (site_of os cs) j x) n)
-    word_empty z = mark_empty (posted_of (site_of os cs) j x) n word_is z
+    pub word_empty : get_or work (5123 + start + n) 0 ≡ 0 → Over ≡ posted_is (get_elem? (posted_of (site_of os cs) j code) n)
+    word_empty z = mark_empty (posted_of (site_of os cs) j code) n word_is z
 
-    pub word_told : (get_or work (5123 + get_or work (1026 + x) 0 + n) 0 ≡ 0 → ⊥) → At (record { 0 = get_or work (5123 + get_or work (1026 + x) 0 + n) 0 - 1 }) ≡ posted_is (get_elem? (posted_of (site_of os cs) j x) n)
-    word_told z = mark_told (posted_of (site_of os cs) j x) n word_is z
+    pub word_told : (get_or work (5123 + start + n) 0 ≡ 0 → ⊥) → At (record { 0 = get_or work (5123 + start + n) 0 - 1 }) ≡ posted_is (get_elem? (posted_of (site_of os cs) j code) n)
+    word_told z = mark_told (posted_of (site_of os cs) j code) n word_is z
 
 pub posted_short : {os cs : List ℕ} → Sound os cs → (j x : ℕ) → length (posted_of (site_of os cs) j x) ≤ 4096
 posted_short {os} {cs} s j x = omega (arith, posted_few s j x, often_few cs x, s.short)
@@ -99,3 +106,6 @@ posted_is_lem site j x n h =
     let g = get_or (posted_of site j x) n no_event in
     let m = keep_out (λ f. eqb (code_at site f) x) (first_events site j) (get_or_in (posted_of site j x) n no_event h) in
     (in_occurs in_use_lawful site g (take_in j (events_of in_use site) m.0), eqb-true (code_at site g) x m.1)
+
+-- the laws of `posted_at`
+pub ruleset posting = (bucket_rises, behind_bucket, word_inside, word_empty, word_told)

@@ -27,11 +27,11 @@ use Rattle.agenda.proofs.Counts.{event_at, count_add, one_more, next_place}
 use Rattle.agenda.proofs.Buckets.{posting_few}
 use Rattle.agenda.proofs.Worked.{tail_set, known}
 use Rattle.agenda.proofs.Tails.{tails_length, mark_place, mark_inside, tails_next}
-use Rattle.agenda.proofs.Standing.{code_read, event_code, top_same, top_tree, held, left_at, none_at, start_at}
+use Rattle.agenda.proofs.Standing.{code_read, event_code, top_tree, held, left_at, none_at, start_at}
 use Rattle.agenda.proofs.Paths.{node_same}
 use Rattle.agenda.proofs.Ranks.{left_eq, ranked_behind}
 use Rattle.agenda.proofs.Found.{all_ranked}
-use Rattle.agenda.proofs.Coming.{Coming}
+use Rattle.agenda.proofs.Coming.{Coming, coming, coming_inside}
 
 -- ---- the code of an event, and where its bucket starts
 
@@ -69,7 +69,7 @@ module _ {os cs work : List ℕ} {j : ℕ} {c : Context} {p : Place} (s : Sound 
   noted_inside = omega (arith, place_is, tail_room, mark_inside (site_of os cs) j w.more small)
 
   -- the nodes are as they were
-  pub noted_ranked : NodesPlayed (top_node (length os - 1) - 1) (set work (5123 + start + n) (c.0 + 1))
+  pub noted_ranked : NodesPlayed (top_node (length (site_of os cs)) - 1) (set work (5123 + start + n) (c.0 + 1))
   noted_ranked = ranked_behind (all_ranked s A) (5123 + start + n) (c.0 + 1) (omega arith)
 
   -- and so is what is left
@@ -79,8 +79,8 @@ module _ {os cs work : List ℕ} {j : ℕ} {c : Context} {p : Place} (s : Sound 
   context_few : c.0 < 256
   context_few = omega (arith, few, w.occurs.inside)
 
-  pub noted_context : (c.0 < length os - 1) × (length os - 1 ≤ 256)
-  noted_context = (omega (arith, contexts_are s, w.occurs.inside), omega (arith, s.few))
+  pub noted_context : (c.0 < length (site_of os cs)) × (length (site_of os cs) ≤ 256)
+  noted_context = (w.occurs.inside, few)
 
   left_before : get_or work (c.0 + 1) 0 ≡ size_of (site_of os cs) c.0 - count_in (first_events (site_of os cs) j) c.0
   unfolding left_of
@@ -106,9 +106,9 @@ module _ {os cs work : List ℕ} {j : ℕ} {c : Context} {p : Place} (s : Sound 
   pub noted_left : 0 < get_or (set work (5123 + start + n) (c.0 + 1)) (c.0 + 1) 0
   noted_left = omega (arith, kept (c.0 + 1) (omega (arith, context_few)), left_before, place_next, w.occurs.to_size)
 
-  module _ {now : List ℕ} (M : Moved (top_node (length os - 1)) (c.0 + 1) (set work (5123 + start + n) (c.0 + 1)) now) (long : length now ≡ length work) where
+  module _ {now : List ℕ} (M : Moved (top_node (length (site_of os cs))) (c.0 + 1) (set work (5123 + start + n) (c.0 + 1)) now) (long : length now ≡ length work) where
     stays : (i : ℕ) → i < 514 + top_node (length (site_of os cs)) → (i ≡ c.0 + 1 → ⊥) → get_or now i 0 ≡ get_or work i 0
-    stays i h d = M.other i (omega (arith, h, top_same s)) d ∙ kept i (omega (arith, h, (top_tree s).high))
+    stays i h d = M.other i h d ∙ kept i (omega (arith, h, (top_tree s).high))
 
     left_here : left_in now (suc c.0) ≡ left_of (site_of os cs) (count_in (first_events (site_of os cs) (suc j))) (suc c.0)
     unfolding left_of
@@ -154,8 +154,14 @@ module _ {os cs work : List ℕ} {j : ℕ} {c : Context} {p : Place} (s : Sound 
         rw (add-one j) (record {
           holds = known (top_node (length site)) f (tails site next) now lefts_are
               (λ t z. stays (514 + t) (omega arith) (λ e. omega (arith, e, context_few)) ∙ none_at s A t z (omega (arith, z, T.high)))
-              (λ t z h. M.ranked.nodes t (omega (arith, z, top_same s, T.low)) h ∙ node_same (left_in now) f lefts_are t (omega (arith, z, T.low)) h)
+              (λ t z h. M.ranked.nodes t (omega (arith, z, T.low)) h ∙ node_same (left_in now) f lefts_are t (omega (arith, z, T.low)) h)
               room tails_are;
           within = w.more;
           room = omega (arith, A.room, long);
         })
+
+-- the laws of `note_event`
+pub ruleset noting = (coming, coming_inside, noted_inside, noted_ranked, noted_context, noted_left, noted)
+
+-- the laws of `bucket_start`
+pub ruleset bucketing = (contexts_are, noted_small, start_is)

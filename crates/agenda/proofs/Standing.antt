@@ -36,9 +36,6 @@ module _ {os cs : List ℕ} (s : Sound os cs) where
   event_code e o = place_small s e.context (pred e.place) (omega (arith, contexts_are s, o.inside)) (omega (arith, o.from_one, o.to_size))
 
   -- the subtree in which the contexts of the tables play
-  pub top_same : top_node (length os - 1) ≡ top_node (length (site_of os cs))
-  top_same = let e : length os - 1 ≡ length (site_of os cs) = omega (arith, contexts_are s) in ap top_node e
-
   pub top_tree : Subtree (length (site_of os cs)) (top_node (length (site_of os cs)))
   top_tree = subtree (length (site_of os cs)) (omega (arith, contexts_are s, s.few))
 

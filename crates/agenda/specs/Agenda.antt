@@ -56,6 +56,11 @@ summed y codes x = cond (leb x y) (codes_below codes x) (often codes (pred x))
 unfoldable pub summed_to : ℕ → List ℕ → List ℕ
 summed_to y codes = replicate 1026 0 ++ map (summed y codes) (up_to 4097)
 
+-- the work area with the starts summed up so far, and zeros behind them
+pub record SummedTo (y : ℕ) (codes work : List ℕ) : Type 0 where
+  pub holds : Holds work (summed_to y codes)
+  pub room : agenda_room ≤ length work
+
 -- no context has come anywhere, and no node but the leaves has its word
 pub record LaidOut (site : Site) (codes work : List ℕ) : Type 0 where
   pub ranked : NodesPlayed 255 work

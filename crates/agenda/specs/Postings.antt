@@ -7,8 +7,12 @@ use Rattle.site.specs.Site.{Site, up_to}
 use Rattle.site.specs.Events.{Event, posting_of}
 use Rattle.site.specs.Tables.{all_codes}
 use Rattle.words.specs.Words.{flat, padded}
-use Rattle.agenda.specs.declared.Posted.{Posted}
-use Rattle.agenda.specs.declared.Posted.TheVariants.{At, Over}
+use Rattle.site.specs.declared.Context.{Context}
+
+-- an event done at some code, by its context, or that there are no more
+pub data Posted : Type 0 where
+  At : Context → Posted
+  Over : Posted
 
 -- the context of an event done, or that there is none
 abbrev pub posted_is : Option Event → Posted

@@ -25,7 +25,7 @@ use Rattle.marks.proofs.mark.Reads as mark
 use Rattle.marks.proofs.marked_from.Kinds as marked_from_kinds
 use Rattle.marks.proofs.marked_from.Reads as marked_from_call
 use Rattle.marks.proofs.Marked.{marked_first}
-use Rattle.demands.specs.Counts.{CountCall, ListsCount, MarkedCall, MarksCount}
+use Rattle.demands.specs.Counts.{CountCall, ListsCount, MarksCount}
 
 -- the call of `shared_count` with the arguments a that answers u
 abbrev pub count_call : (κs : Lfts 2) → Dens κs shared_count_kinds.ps → (res_t shared_count_kinds.r κs).Denot → CountCall

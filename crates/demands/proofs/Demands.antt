@@ -11,16 +11,19 @@ use borrow.Fn.Kinds.{Dens, res_t, ended_of}
 use Rattle.words.proofs.OneAnswer.{Says}
 use Rattle.order.specs.Order.{◌∈◌}
 use Rattle.site.specs.Site.{Pair}
+use Rattle.search.specs.Answer.{answer_said}
 use Rattle.search.specs.Outcome.{Tells}
 use Rattle.join.specs.Join.{call_site}
 use Rattle.join.proofs.Demands.{Demand1, Demand2, FifthWords, Demand3, call_list, demand_1, demand_2, fifth_words, demand_3}
 use Rattle.join.proofs.Only.{call_of, join_says}
 use Rattle.join.proofs.join.Kinds as join_kinds
 use Rattle.join.proofs.join.Reads as join
+use Rattle.reader.specs.Reading.{reading_said}
 use Rattle.reader.specs.Calls.{Reads}
 use Rattle.reader.proofs.Only.{read_says}
 use Rattle.reader.proofs.read.Kinds as read_kinds
 use Rattle.reader.proofs.read.Reads as read
+use Rattle.writer.specs.Writes.{writing_said}
 use Rattle.writer.specs.Calls.{Writes}
 use Rattle.writer.proofs.Only.{write_says}
 use Rattle.writer.proofs.write.Kinds as write_kinds
@@ -47,7 +50,7 @@ read_call κs a u x = record {
   sheet = a.0.now;
   offsets = a.1.0.now;
   codes = a.1.1.0.now;
-  answer = u;
+  answer = reading_said u;
   offsets' = x.1.0.now;
   codes' = x.1.1.0.now;
 }
@@ -60,7 +63,7 @@ write_call κs a u x = record {
   offsets = a.1.0.now;
   codes = a.1.1.0.now;
   text = a.1.1.1.0.now;
-  answer = u;
+  answer = writing_said u;
   text' = x.1.1.1.0.now;
 }
 
@@ -85,11 +88,13 @@ cell_refusals κs a u x p = cell_refuses (cell_of_says κs a u x p)
 -- ---- demand 2: the list, and sheets and tables that come back
 
 -- the list of a join that tells f, e and m, over the first four words of its entries
-pub join_list : Says 5 join_kinds.ps join_kinds.r join.Post (λ κs a u x. (f e m : ℕ) → Tells u 0 (f ∷ e ∷ m ∷ []) → Demand2 (call_of κs a u x) f)
+pub join_list : Says 5 join_kinds.ps join_kinds.r join.Post (λ κs a u x. (f e m : ℕ)
+    → Tells (answer_said u) 0 (f ∷ e ∷ m ∷ []) → Demand2 (call_of κs a u x) f)
 join_list = demand_2
 
 -- and the fifth word of each of its entries
-pub join_fifth : Says 5 join_kinds.ps join_kinds.r join.Post (λ κs a u x. (f e m : ℕ) → Tells u 0 (f ∷ e ∷ m ∷ []) → FifthWords (call_of κs a u x) f)
+pub join_fifth : Says 5 join_kinds.ps join_kinds.r join.Post (λ κs a u x. (f e m : ℕ)
+    → Tells (answer_said u) 0 (f ∷ e ∷ m ∷ []) → FifthWords (call_of κs a u x) f)
 join_fifth = fifth_words
 
 -- a call of `read` and one of `write`
@@ -100,20 +105,21 @@ module _ (κs κs' : Lfts 3) (a : Dens κs read_kinds.ps) (b : Dens κs' write_k
   -- what was read is written back
   pub read_written : SheetBack (read_call κs a u x) (write_call κs' b v y)
   read_written n m told os cs fine room =
-      let W : Writes b.0 (take (n + 1) x.1.0.now) (take m x.1.1.0.now) b.1.1.1.0.now v y.1.1.1.0.now =
+      let W : Writes b.0 (take (n + 1) x.1.0.now) (take m x.1.1.0.now) b.1.1.1.0.now (writing_said v) y.1.1.1.0.now =
       rw (os, cs) (write_says κs' b v y q) in
       sheet_back (read_says κs a u x p) told (rw (os, cs) fine) W room
 
   -- what was written is read back
   pub written_read : TablesBack (write_call κs' b v y) (read_call κs a u x)
   written_read n told text h g =
-      let R : Reads (take n y.1.1.1.0.now) a.1.0.now a.1.1.0.now u x.1.0.now x.1.1.0.now =
+      let R : Reads (take n y.1.1.1.0.now) a.1.0.now a.1.1.0.now (reading_said u) x.1.0.now x.1.1.0.now =
       rw text (read_says κs a u x p) in
       tables_trip (write_says κs' b v y q) told R h g
 
 -- ---- demand 3: the trail of a join that tells f, e and m
 
-pub join_trail : Says 5 join_kinds.ps join_kinds.r join.Post (λ κs a u x. (f e m : ℕ) → Tells u 0 (f ∷ e ∷ m ∷ []) → Demand3 (call_of κs a u x) e m)
+pub join_trail : Says 5 join_kinds.ps join_kinds.r join.Post (λ κs a u x. (f e m : ℕ)
+    → Tells (answer_said u) 0 (f ∷ e ∷ m ∷ []) → Demand3 (call_of κs a u x) e m)
 join_trail = demand_3
 
 -- ---- the heat map
@@ -126,12 +132,12 @@ pub heat_map : (κs : Lfts 5) (κs' : Lfts 1) (a : Dens κs join_kinds.ps) (b : 
 heat_map κs κs' a b u v x y p q f e m told n k room four A B = map_cell (join_says κs a u x p) told (cell_call κs' b v) q n k room four A B
 
 -- the value of a pair on the list of a join that tells f, e and m
-pub map_value : Says 5 join_kinds.ps join_kinds.r join.Post (λ κs a u x. (f e m : ℕ) → Tells u 0 (f ∷ e ∷ m ∷ [])
+pub map_value : Says 5 join_kinds.ps join_kinds.r join.Post (λ κs a u x. (f e m : ℕ) → Tells (answer_said u) 0 (f ∷ e ∷ m ∷ [])
     → (p : Pair) → p ∈ call_list (call_of κs a u x) → InRange (call_site (call_of κs a u x)) p)
 map_value κs a u x p f e m told = map_range (join_says κs a u x p) told
 
 -- and those of two
-pub map_values : Says 5 join_kinds.ps join_kinds.r join.Post (λ κs a u x. (f e m : ℕ) → Tells u 0 (f ∷ e ∷ m ∷ [])
+pub map_values : Says 5 join_kinds.ps join_kinds.r join.Post (λ κs a u x. (f e m : ℕ) → Tells (answer_said u) 0 (f ∷ e ∷ m ∷ [])
     → (p q : Pair) → p ∈ call_list (call_of κs a u x) → q ∈ call_list (call_of κs a u x) → Rounds (call_site (call_of κs a u x)) p q)
 map_values κs a u x p f e m told = map_rounds (join_says κs a u x p) told
 

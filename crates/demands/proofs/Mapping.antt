@@ -13,7 +13,7 @@ use Rattle.entries.specs.Entries.{width, entry_of, first_four, entries}
 use Rattle.entries.specs.Listed.{entry_words}
 use Rattle.entries.specs.declared.Entry.{Entry}
 use Rattle.entries.proofs.Listed.{entry_length, entries_back}
-use Rattle.tables.specs.declared.Check.TheVariants as check
+use Rattle.tables.specs.Check as check
 use Rattle.tables.proofs.Sound.{contexts_are, size_small}
 use Rattle.search.specs.Outcome.{Tells}
 use Rattle.join.specs.Join.{JoinCall, call_site, Joins}
@@ -23,7 +23,7 @@ use Rattle.heat.specs.Cells.{cell_in}
 use Rattle.heat.specs.Answers.{CellCall, cell_entries, cell_checked, cell_of, Shows}
 use Rattle.heat.specs.declared.Cell.{Cell}
 use Rattle.heat.specs.declared.Cell.TheVariants as cell
-use Rattle.heat.specs.declared.CellAnswer.TheVariants as answer
+use Rattle.heat.specs.CellAnswer as answer
 use Rattle.heat.proofs.Only.{shows}
 use Rattle.heat.proofs.Unseen.{unseen}
 use Rattle.heat.proofs.Mapped.{counts_of, by_cell, fine_on_map}

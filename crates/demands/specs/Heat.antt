@@ -11,7 +11,7 @@ use Rattle.heat.specs.Cells.{nought, one, quotient, as_pair, cell_in}
 use Rattle.heat.specs.Answers.{CellTells, CellCall, cell_entries}
 use Rattle.heat.specs.Refusals.{CellCause}
 use Rattle.heat.specs.declared.Cell.TheVariants as cell
-use Rattle.heat.specs.declared.CellAnswer.TheVariants as answer
+use Rattle.heat.specs.CellAnswer as answer
 
 -- ---- demand 1: 13 and 17
 

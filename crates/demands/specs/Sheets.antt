@@ -8,10 +8,9 @@ use Rattle.sheet.specs.Text.{sheet_text}
 use Rattle.sheet.specs.Fits.{SheetFits}
 use Rattle.sheet.specs.Meaning.{Means}
 use Rattle.search.specs.Outcome.{zeros}
-use Rattle.reader.specs.declared.Reading.{Reading}
+use Rattle.reader.specs.Reading.{Reading}
 use Rattle.reader.specs.Answers.{ReadingTells}
-use Rattle.writer.specs.declared.Writing.{Writing}
-use Rattle.writer.specs.Writes.{WritingTells}
+use Rattle.writer.specs.Writes.{Writing, WritingTells}
 use Rattle.writer.specs.Refusals.{WriteCause}
 
 -- ---- the calls

@@ -1,6 +1,9 @@
 -- The order of entries is that of their pairs: cross products of positive denominators are the order of similarities.
 -- So among entries of positive unions it ranks.
-use mathlib.Core.Bool.{Bool, true, false}
+use mathlib.Core.Bool.{Bool, true, false, not}
+use Rattle.std.specs.Ordering.{nat_cmp, partial_ordering_then, is_some_and, is_lt}
+use Rattle.std.specs.Prelude.{Some}
+use Rattle.std.proofs.lemmas.Bool.Decides.{nat_tests}
 use mathlib.Core.Path.{◌≡◌, refl, sym, ap, ap₂, ◌∙◌}
 use Prim.Native.Nat.{◌<◌}
 use native.Mathlib.Omega.{arith}
@@ -27,22 +30,32 @@ module _ (e f : Entry) {s t : Fraction} (p : s ≡ similarity_of e) (q : t ≡ s
   unfolding more_alike
   more = a ∙ ap₂ lower q p
 
-  pub rank_first : r ≡ true → true ≡ entry_before e f
+  pub rank_first : r ≡ true → r ≡ entry_before e f
   unfolding entry_before
-  rank_first w = sym (then_first _ _ e f (sym more ∙ w))
+  rank_first w = w ∙ sym (then_first _ _ e f (sym more ∙ w))
 
   module _ {u : Bool} (b : u ≡ lower s t) (z : r ≡ false) where
     less : u ≡ more_alike f e
     unfolding more_alike
     less = b ∙ ap₂ lower p q
 
-    pub rank_after : u ≡ true → false ≡ entry_before e f
+    pub rank_after : u ≡ true → not u ≡ entry_before e f
     unfolding entry_before
-    rank_after w = sym (then_after _ _ e f (sym more ∙ z) (sym less ∙ w))
+    rank_after w = ap not w ∙ sym (then_after _ _ e f (sym more ∙ z) (sym less ∙ w))
 
     pub rank_tied : {n : Bool} → u ≡ false → n ≡ numbers_before (entry_pair e) (entry_pair f) → n ≡ entry_before e f
     unfolding entry_before
     rank_tied w o = o ∙ sym (then_tied _ _ e f (sym more ∙ z) (sym less ∙ w))
+
+-- each return is an arm of the order
+pub ruleset ranks = (rank_first, rank_after, rank_tied)
+
+-- ---- what `numbers_before` tells
+
+-- pairs in the order of tuples
+pub tuple_before : (p q : Pair) → is_some_and is_lt (partial_ordering_then (Some (nat_cmp p.lower q.lower)) (Some (nat_cmp p.higher q.higher))) ≡ numbers_before p q
+unfolding numbers_before ◌then_by◌
+tuple_before p q = grind (arith, nat_tests)
 
 -- ---- the first four words alone
 

@@ -1,6 +1,6 @@
 -- The list buffer in the join's loop: it starts empty, one more pair is inserted, and its k-th entry gives the cut-off.
 -- The search uses these laws and never opens an entry.
-use mathlib.Core.Bool.{Bool, false, not, not-not}
+use mathlib.Core.Bool.{Bool, not, not-not}
 use mathlib.Core.List.{List, [], ◌∷◌, ◌++◌, map}
 use mathlib.Core.List.Memᴰ.{append_left as in_left}
 use mathlib.Core.List.Memᴰ.{append_right as in_right}
@@ -11,6 +11,8 @@ use mathlib.Core.Option.{Option, none, some}
 use mathlib.Core.Path.{◌≡◌, refl, sym, ap, ◌∙◌}
 use Prim.Native.Nat.{ℕ, zero, suc, ◌+◌, ◌*◌, ◌-◌, ◌≤◌, ◌<◌, min}
 use native.Mathlib.Omega.{arith}
+use borrow.Author.Tests.{lt-leb}
+use lib.Dec.{leb}
 use lib.ListN.{length, take, drop, replicate, length-append, length-map, length-replicate, take-append-drop}
 use Rattle.order.specs.Order.{◌∈◌, insert_by, kth}
 use Rattle.order.proofs.Lists.{take_map, pairwise_imp, map_pairwise}
@@ -59,8 +61,8 @@ kth_map f (suc (suc k)) (x ∷ xs) = kth_map f (suc k) xs
 
 -- what `below_last` tells
 module _ (list : List ℕ) (found k : ℕ) (c : Fraction) where
-  pub not_full : found < k → false ≡ below_entry c (kth k (entries found list))
-  not_full h = rw (kth_none k (entries found list) (omega (arith, length_entries list 0 found)))
+  pub not_full : found < k → leb k found ≡ below_entry c (kth k (entries found list))
+  not_full h = rw (lt-leb k found h, kth_none k (entries found list) (omega (arith, length_entries list 0 found)))
 
   pub below_told : {e : Entry} {s : Fraction} {r : Bool} → 0 < k → k ≤ found → e ≡ entry_at list (width * (k - 1)) → s ≡ similarity_of e → r ≡ lower c s → r ≡ below_entry c (kth k (entries found list))
   below_told {e} pos h q w o =

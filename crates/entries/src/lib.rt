@@ -17,7 +17,7 @@ use walk::{Fraction, below};
 pub const WIDTH: usize = 5;
 
 // A pair on the list: its two contexts, how many codes they share, how many they have in all, and the first code that they share.
-#[derive(Clone, Copy)]
+#[derive(Clone, Copy, Debug, PartialEq, Eq)]
 pub struct Entry {
     pub lower: Context,
     pub higher: Context,
@@ -40,32 +40,17 @@ fn similarity(e: Entry) -> Fraction
 fn numbers_before(e: Entry, f: Entry) -> bool
     ensures { result ≡ numbers_before (entry_pair e) (entry_pair f) }
 {
-    let el = e.lower.0;
-    let fl = f.lower.0;
-    if el < fl {
-        return true;
-    }
-    if fl < el {
-        return false;
-    }
-    let eh = e.higher.0;
-    let fh = f.higher.0;
-    eh < fh
+    (e.lower, e.higher) < (f.lower, f.higher)
 }
 
 // Whether e comes before f on the list: by similarity, then by their numbers.
+#[tactic(auto, using(crate::proofs::Alike::ranks))]
 pub fn rank_before(e: Entry, f: Entry) -> bool
     ensures { result ≡ entry_before e f }
 {
     let s = similarity(e);
     let t = similarity(f);
-    if below(t, s) {
-        return true;
-    }
-    if below(s, t) {
-        return false;
-    }
-    numbers_before(e, f)
+    below(t, s) || (!below(s, t) && numbers_before(e, f))
 }
 
 // The entry i of the list, counted from 0.
@@ -94,8 +79,7 @@ fn halve(list: &[u16], found: usize, e: Entry) -> usize
     let mut hi = found - 1;
     while lo < hi {
         let mid = (lo + hi) / 2;
-        let f = entry_at(list, mid);
-        if rank_before(e, f) {
+        if rank_before(e, entry_at(list, mid)) {
             hi = mid;
         } else {
             lo = mid + 1;
@@ -105,32 +89,25 @@ fn halve(list: &[u16], found: usize, e: Entry) -> usize
 }
 
 // How many of the listed entries stay before e: all where it does not come before the last one.
+#[tactic(auto, using(crate::proofs::Ranked::looks))]
 fn find_rank(list: &[u16], found: usize, e: Entry) -> usize
     requires found_in_bounds { (width * found ≤ length list.now) × (found ≤ 64) }
     requires ordered { Ordered list.now found × (0 < e.union) }
     ensures { result ≡ rank_of entry_before e (entries found list.now) }
 {
-    if found == 0 {
-        return 0;
-    }
-    let f = entry_at(list, found - 1);
-    if !rank_before(e, f) {
+    if found == 0 || !rank_before(e, entry_at(list, found - 1)) {
         return found;
     }
     halve(list, found, e)
 }
 
-// Moves the words from a up to b up by an entry, the last one first.
+// Moves the words from a up to b up by an entry.
 fn shift(list: &mut [u16], a: usize, b: usize)
     requires { (a ≤ b) × (b + width ≤ length list.old) }
     ensures { list.new
         ≡ take (a + width) list.old ++ take (b - a) (drop a list.old) ++ drop (b + width) list.old }
 {
-    let mut j = b;
-    while j > a {
-        j -= 1;
-        list[j + WIDTH] = list[j];
-    }
+    list.copy_within(a..b, a + WIDTH);
 }
 
 // Writes e's words from `at`.
@@ -160,22 +137,18 @@ pub fn insert(list: &mut [u16], found: usize, k: usize, e: Entry) -> usize
     if p >= k {
         return k;
     }
-    let keep = words::smaller(found, k - 1);
+    let keep = found.min(k - 1);
     shift(list, WIDTH * p, WIDTH * keep);
     put_entry(list, WIDTH * p, e);
     keep + 1
 }
 
 // Whether k are listed and a ceiling is below the similarity of the k-th: only below.
+#[tactic(auto, using(crate::proofs::Listed::not_full, crate::proofs::Listed::below_told))]
 pub fn below_last(list: &[u16], found: usize, k: usize, ceiling: Fraction) -> bool
     requires k_nonzero { (0 < k) × (k ≤ 64) }
     requires k_in_bounds { width * k ≤ length list.now }
     ensures { result ≡ below_entry ceiling (kth k (entries found list.now)) }
 {
-    if found < k {
-        return false;
-    }
-    let e = entry_at(list, k - 1);
-    let s = similarity(e);
-    below(ceiling, s)
+    found >= k && below(ceiling, similarity(entry_at(list, k - 1)))
 }

@@ -6,8 +6,8 @@ use native.Mathlib.Omega.{arith}
 use lib.ListN.{length}
 use borrow.Author.Tests.{lt-ltb, le-ltb}
 use Rattle.words.proofs.Split.{by_le}
-use Rattle.tables.specs.declared.Check.{Check}
-use Rattle.tables.specs.declared.Check.TheVariants as check
+use Rattle.tables.specs.Check.{Check}
+use Rattle.tables.specs.Check as check
 use Rattle.tables.proofs.Meaning.{refused_means, means_refused, FirstBreak}
 use Rattle.entries.specs.Entries.{width, entry_at}
 use Rattle.heat.specs.Checks.{numbers_check, count_check, rule_at, cell_check}

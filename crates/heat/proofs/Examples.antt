@@ -9,8 +9,8 @@ use Rattle.entries.specs.Entries.{context, width, words, entries_from}
 use Rattle.heat.specs.Cells.{quotient, names, entry_for, cell_in}
 use Rattle.heat.specs.Checks.{numbers_check, count_check, entry_rule, rule_at, cell_check}
 use Rattle.heat.specs.Answers.{cell_of}
-use Rattle.heat.specs.declared.CellAnswer.{CellAnswer}
-use Rattle.heat.specs.declared.CellAnswer.TheVariants.{Cell, Refused}
+use Rattle.heat.specs.CellAnswer.{CellAnswer}
+use Rattle.heat.specs.CellAnswer.{Cell, Refused}
 use Rattle.heat.specs.declared.Cell.TheVariants.{Blank, Value}
 
 -- contexts, list, number of entries, the two contexts, and the answer

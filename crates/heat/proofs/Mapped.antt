@@ -20,7 +20,7 @@ use Rattle.order.specs.Order.{◌∈◌, keep, kth}
 use Rattle.order.proofs.Lists.{cases, never}
 use Rattle.site.specs.Site.{Site, Rising, Pair, Shares, size_of, shared_of, union_of, union}
 use Rattle.site.proofs.Contexts.{get_or_in, shared_within}
-use Rattle.tables.specs.declared.Check.TheVariants as check
+use Rattle.tables.specs.Check as check
 use Rattle.tables.proofs.Meaning.{means_fine}
 use Rattle.entries.specs.Entries.{width, entry_of, entries}
 use Rattle.entries.specs.Listed.{entry_words}

@@ -3,13 +3,13 @@ use mathlib.Core.List.{[], ◌∷◌}
 use mathlib.Core.Path.{◌≡◌, refl, sym, ap, ◌∙◌}
 use Prim.Native.Nat.{ℕ, ◌<◌}
 use native.Mathlib.Omega.{arith}
-use Rattle.tables.specs.declared.Check.{Check}
-use Rattle.tables.specs.declared.Check.TheVariants as check
+use Rattle.tables.specs.Check.{Check}
+use Rattle.tables.specs.Check as check
 use Rattle.heat.specs.Cells.{cell_in}
 use Rattle.heat.specs.Answers.{cell_number, cell_values, CellTells, CellCall, cell_entries, cell_checked, Shows}
 use Rattle.heat.specs.Refusals.{CellCause}
-use Rattle.heat.specs.declared.CellAnswer.{CellAnswer}
-use Rattle.heat.specs.declared.CellAnswer.TheVariants as answer
+use Rattle.heat.specs.CellAnswer.{CellAnswer}
+use Rattle.heat.specs.CellAnswer as answer
 use Rattle.heat.proofs.Causes.{cause_of, of_cause, fine_without}
 
 -- a number above 0 is that of a refusal

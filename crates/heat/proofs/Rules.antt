@@ -2,13 +2,18 @@
 use mathlib.Core.List.{List}
 use mathlib.Core.Logic.{inl, inr, ⊎_elim}
 use mathlib.Core.Path.{◌≡◌, sym, ap, ◌∙◌}
-use Prim.Native.Nat.{ℕ, ◌*◌, ◌<◌}
+use Prim.Native.Nat.{ℕ, ◌+◌, ◌*◌, ◌<◌}
 use native.Mathlib.Omega.{arith}
 use borrow.Author.Tests.{eq-eqb, ne_eqb, lt-ltb, le-ltb}
+use Rattle.std.proofs.Common.{Option, None, Some}
 use Rattle.words.proofs.Split.{by_eq, by_le}
+use Rattle.refusal.specs.declared.Rule.{Rule}
+use Rattle.refusal.specs.Numbers.{number_of, rule_said}
+use Rattle.tables.specs.Check.{Refused}
+use Rattle.tables.proofs.Checked.{Checked, none_next, some_here}
 use Rattle.entries.specs.Entries.{width, entry_at}
 use Rattle.entries.specs.declared.Entry.{Entry}
-use Rattle.heat.specs.Checks.{entry_rule, rule_at}
+use Rattle.heat.specs.Checks.{entry_rule, rule_at, entries_check}
 use Rattle.heat.specs.Refusals.{Wrong}
 
 module _ (contexts : ℕ) (e : Entry) where
@@ -41,7 +46,15 @@ module _ (contexts : ℕ) (e : Entry) where
       none : Wrong contexts e → ⊥
       none = is_right k
 
--- of the entry that was read at i the rule says what it says of i
-pub rule_told : (contexts : ℕ) (list : List ℕ) (i : ℕ) {e : Entry} {b : ℕ} → e ≡ entry_at list (width * i) → b ≡ entry_rule contexts e → b ≡ rule_at contexts list i
-unfolding rule_at
-rule_told contexts list i q r = r ∙ ap (entry_rule contexts) q
+-- where the entry i was read, and a function answers whether its rule is broken
+module _ (contexts : ℕ) (list : List ℕ) {n i : ℕ} (w : Checked (rule_at contexts list) 0 n i) (h : i < n)
+    {e : Entry} (q : e ≡ entry_at list (width * i)) (told : Option Rule) (r : rule_said told ≡ entry_rule contexts e) where
+  told_at : rule_said told ≡ rule_at contexts list i
+  unfolding rule_at
+  told_at = r ∙ ap (entry_rule contexts) q
+
+  pub entry_kept : told ≡ None → Checked (rule_at contexts list) 0 n (i + 1)
+  entry_kept f = none_next w h told_at f
+
+  pub entry_broken : {rule : Rule} → told ≡ Some rule → Refused (number_of rule) i ≡ entries_check contexts list n
+  entry_broken f = some_here w h told_at f

@@ -2,8 +2,7 @@
 use mathlib.Core.Bool.{Bool, true, false}
 use mathlib.Core.List.{List}
 use mathlib.Core.Path.{◌≡◌, sym, ap, ◌∙◌}
-use Prim.Native.Nat.{ℕ, suc, ◌+◌, ◌-◌, ◌*◌, ◌≤◌, ◌<◌, zero-le}
-use native.Mathlib.Nat.{sub-zero}
+use Prim.Native.Nat.{ℕ, suc, ◌+◌, ◌-◌, ◌*◌, ◌≤◌, ◌<◌}
 use native.Mathlib.Omega.{arith}
 use lib.Ieee.{Float}
 use Rattle.order.specs.Order.{keep, kth}
@@ -11,15 +10,11 @@ use Rattle.site.specs.Site.{Pair}
 use Rattle.entries.specs.Entries.{width, entry_at, entries_from, entries}
 use Rattle.entries.specs.declared.Entry.{Entry}
 use Rattle.heat.specs.Cells.{quotient, names, entry_for, cell_for}
-use Rattle.heat.specs.Checks.{Positive}
 use Rattle.heat.specs.declared.Cell.TheVariants.{Blank, Value}
 
 pub record Sought (list : List ℕ) (p : Pair) (n i : ℕ) : Type 0 where
   pub within : i ≤ n
   pub same : entry_for p (entries n list) ≡ entry_for p (entries_from (width * i) (n - i) list)
-
-pub sought_start : {list : List ℕ} {p : Pair} {n : ℕ} → Sought list p n 0
-sought_start = record { within = zero-le; same = rw sub-zero }
 
 module _ {list : List ℕ} {p : Pair} {n i : ℕ} (w : Sought list p n i) where
   pub not_listed : n ≤ i → Blank ≡ cell_for (entry_for p (entries n list))
@@ -43,7 +38,3 @@ module _ {list : List ℕ} {p : Pair} {n i : ℕ} (w : Sought list p n i) where
     sought_next t =
         let next : width * (i + 1) ≡ width * i + width = omega arith in
         record { within = omega arith; same = w.same ∙ rw (one_left, said ∙ t, next) }
-
--- an entry that was read has a union
-pub union_told : (list : List ℕ) (i : ℕ) {e : Entry} {n : ℕ} → e ≡ entry_at list (width * i) → Positive list n → i < n → 0 < e.union
-union_told list i q c h = rw (ap (λ (e : Entry). e.union) q) (c i h)

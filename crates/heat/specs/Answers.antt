@@ -1,15 +1,15 @@
 -- The answer of a call for one cell, as an equation (`cell_of`), and the same of a call in the paper's words (`Shows`).
-use Rattle.std.specs.Prelude.{List, [], ◌∷◌, ◌≡◌, ℕ, Float}
-use Rattle.tables.specs.declared.Check.{Check}
-use Rattle.tables.specs.declared.Check.TheVariants as check
+use Rattle.std.specs.Prelude.{List, [], ◌∷◌, ◌≡◌, ℕ, Float, Result, Ok, Err}
+use Rattle.tables.specs.Check.{Check}
+use Rattle.tables.specs.Check as check
 use Rattle.entries.specs.Entries.{entries}
 use Rattle.entries.specs.declared.Entry.{Entry}
 use Rattle.heat.specs.Cells.{nought, cell_in}
 use Rattle.heat.specs.Checks.{cell_check}
 use Rattle.heat.specs.declared.Cell.{Cell}
 use Rattle.heat.specs.declared.Cell.TheVariants as cell
-use Rattle.heat.specs.declared.CellAnswer.{CellAnswer}
-use Rattle.heat.specs.declared.CellAnswer.TheVariants as answer
+use Rattle.heat.specs.CellAnswer.{CellAnswer}
+use Rattle.heat.specs.CellAnswer as answer
 
 -- ---- its number and values
 
@@ -33,6 +33,11 @@ unfoldable pub cell_value : CellAnswer → Float
 cell_value (answer.Cell cell.Blank) = nought
 cell_value (answer.Cell (cell.Value v)) = v
 cell_value (answer.Refused number place) = nought
+
+-- the same of what a result holds, whatever it refuses with
+abbrev pub value_shown : {E : Type 0} → Result Cell E → Float
+value_shown (Ok c) = cell_value (answer.Cell c)
+value_shown (Err e) = nought
 
 -- ---- the answer
 

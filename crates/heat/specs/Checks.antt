@@ -2,8 +2,8 @@
 use Rattle.std.specs.Prelude.{cond, List, ℕ, ◌*◌, ◌/◌, ◌<◌, eqb, ltb, length}
 use Rattle.tables.specs.Earliest.{earliest}
 use Rattle.tables.specs.Checks.{when, ◌and_then◌}
-use Rattle.tables.specs.declared.Check.{Check}
-use Rattle.tables.specs.declared.Check.TheVariants.{Fine, Refused}
+use Rattle.tables.specs.Check.{Check}
+use Rattle.tables.specs.Check.{Fine, Refused}
 use Rattle.entries.specs.Entries.{width, entry_at}
 use Rattle.entries.specs.declared.Entry.{Entry}
 

@@ -2,6 +2,8 @@
 pub mod Cells
 -- the checks of a call, in their order
 pub mod Checks
+-- what it answers, and what a result says
+pub mod CellAnswer
 -- its answer
 pub mod Answers
 -- the cause of each refusal

@@ -6,10 +6,13 @@ use lib.Ieee.{Float}
 use Rattle.sheet.specs.Read.{Read, value, refused}
 use Rattle.listing.specs.Answers.{listing_by}
 use Rattle.listing.specs.Calls.{Lists}
-use Rattle.listing.specs.declared.Listing.{Listing}
-use Rattle.listing.specs.declared.Listing.TheVariants.{Text, Refused}
-use Rattle.heat.specs.Answers.{cell_of, cell_value}
-use Rattle.heat.specs.declared.CellAnswer.{CellAnswer}
+use Rattle.listing.specs.Answer.{Listing, Text, Refused}
+use Rattle.std.specs.Prelude.{Result}
+use Rattle.refusal.specs.declared.Refusal.{Refusal}
+use Rattle.heat.specs.declared.Cell.{Cell}
+use Rattle.heat.specs.Answers.{cell_of, cell_value, value_shown}
+use Rattle.heat.specs.CellAnswer.{cell_said}
+use Rattle.heat.proofs.Rounded.{value_told}
 use Rattle.host.specs.Call.{host_value, Hosts, host_cell, HostsCell}
 
 -- the value of the library's answer
@@ -25,19 +28,11 @@ value_same (refused n p) = refl
 
 module _ {sheet text text₂ : List ℕ} {r : Listing} (w : Lists sheet text r text₂) where
   -- the value of the answer, and the text as it is left
-  hosted : {v : ℕ} → v ≡ host_value_by r → Hosts sheet text v text₂
+  pub hosted : {v : ℕ} → v ≡ host_value_by r → Hosts sheet text v text₂
   hosted e = record { value_is = e ∙ ap host_value_by w.answer ∙ value_same _; text_is = w.text_is }
 
-  -- of a text its length, of a refusal 1,000,000 and its number
-  pub hosted_text : {n : ℕ} → r ≡ Text n → Hosts sheet text n text₂
-  unfolding host_value_by
-  hosted_text e = hosted (rw e)
-
-  pub hosted_refusal : {n p : ℕ} → r ≡ Refused n p → Hosts sheet text (1000000 + n) text₂
-  unfolding host_value_by
-  hosted_refusal e = hosted (rw e)
-
 -- the kind and the value of a cell
-pub hosted_cell : (contexts : ℕ) (list : List ℕ) (entries first second : ℕ) {r : CellAnswer} {n : ℕ} {v : Float}
-    → r ≡ cell_of contexts list entries first second → v ≡ cell_value r → n ≡ host_cell r → HostsCell contexts list entries first second n v
-hosted_cell contexts list entries first second e f g = record { kind_is = g ∙ ap host_cell e; value_is = f ∙ ap cell_value e }
+pub hosted_cell : (contexts : ℕ) (list : List ℕ) (entries first second : ℕ) (r : Result Cell Refusal) {n : ℕ} {v : Float}
+    → cell_said r ≡ cell_of contexts list entries first second → v ≡ value_shown r → n ≡ host_cell (cell_said r)
+    → HostsCell contexts list entries first second n v
+hosted_cell contexts list entries first second r e f g = record { kind_is = g ∙ ap host_cell e; value_is = f ∙ value_told r ∙ ap cell_value e }

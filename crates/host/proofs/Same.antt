@@ -12,12 +12,12 @@ use Rattle.words.specs.Words.{padded}
 use Rattle.listing.specs.Listing.{listing_in}
 use Rattle.listing.specs.Answers.{listing_number, listing_values, bytes_of}
 use Rattle.listing.specs.Calls.{Lists}
-use Rattle.listing.specs.declared.Listing.{Listing}
-use Rattle.listing.specs.declared.Listing.TheVariants.{Text, Refused}
+use Rattle.listing.specs.Answer.{Listing, Text, Refused, listing_said}
 use Rattle.listing.proofs.Telling.{lists_numbered}
 use Rattle.listing.proofs.Only.{list_sheet_says}
 use Rattle.listing.proofs.list_sheet.Kinds as list_sheet_kinds
 use Rattle.listing.proofs.list_sheet.Reads as list_sheet
+use Rattle.heat.specs.CellAnswer.{cell_said}
 use Rattle.heat.specs.Answers.{cell_of, cell_value}
 use Rattle.heat.proofs.cell_of.Kinds as cell_of_kinds
 use Rattle.heat.proofs.cell_of.Reads as cell_of_call
@@ -56,16 +56,16 @@ pub host_lists : (κs κs' : Lfts 2) (a : Dens κs list_sheet_kinds.ps) (b : Den
     (r : (res_t list_sheet_kinds.r κs).Denot) (v : (res_t sazamkhri_listing_kinds.r κs').Denot)
     (x : AtExit (ended_of 2 list_sheet_kinds.ps list_sheet_kinds.r) κs) (y : AtExit (ended_of 2 sazamkhri_listing_kinds.ps sazamkhri_listing_kinds.r) κs')
     → a.0.now ≡ b.0.now → length a.1.0.now ≡ length b.1.0.now
-    → list_sheet.Post κs a r x → sazamkhri_listing.Post κs' b v y → SameSaid r x.1.0.now v y.1.0.now
+    → list_sheet.Post κs a r x → sazamkhri_listing.Post κs' b v y → SameSaid (listing_said r) x.1.0.now v y.1.0.now
 host_lists κs κs' a b r v x y same l p q =
-    hosts_lists l (subst (λ (s : List ℕ). Lists s a.1.0.now r x.1.0.now) same (list_sheet_says κs a r x p)) (sazamkhri_listing_says κs' b v y q)
+    hosts_lists l (subst (λ (s : List ℕ). Lists s a.1.0.now (listing_said r) x.1.0.now) same (list_sheet_says κs a r x p)) (sazamkhri_listing_says κs' b v y q)
 
 -- `cell_of` with the arguments a answers r, and the host call with the same arguments b gets v, and w for the value
 pub host_cells : (κs : Lfts 1) (κs' : Lfts 2) (a : Dens κs cell_of_kinds.ps) (b : Dens κs' sazamkhri_cell_kinds.ps)
     (r : (res_t cell_of_kinds.r κs).Denot) (v : (res_t sazamkhri_cell_kinds.r κs').Denot)
     (x : AtExit (ended_of 1 cell_of_kinds.ps cell_of_kinds.r) κs) (y : AtExit (ended_of 2 sazamkhri_cell_kinds.ps sazamkhri_cell_kinds.r) κs')
     → a.0 ≡ b.0 → a.1.0.now ≡ b.1.0.now → a.1.1.0 ≡ b.1.1.0 → a.1.1.1.0.0 ≡ b.1.1.1.0 → a.1.1.1.1.0.0 ≡ b.1.1.1.1.0
-    → cell_of_call.Post κs a r x → sazamkhri_cell.Post κs' b v y → (v ≡ host_cell r) × (y.1.1.1.1.1.0.now ≡ cell_value r)
+    → cell_of_call.Post κs a r x → sazamkhri_cell.Post κs' b v y → (v ≡ host_cell (cell_said r)) × (y.1.1.1.1.1.0.now ≡ cell_value (cell_said r))
 host_cells κs κs' a b r v x y n l e f s p q =
     let same = sym (p ∙ λ i. cell_of (n i) (l i) (e i) (f i) (s i)) in
     let h = sazamkhri_cell_says κs' b v y q in

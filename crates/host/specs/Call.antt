@@ -6,8 +6,8 @@ use Rattle.listing.specs.Listing.{listing_in}
 use Rattle.listing.specs.Answers.{bytes_of}
 use Rattle.heat.specs.Answers.{cell_of, cell_value}
 use Rattle.heat.specs.declared.Cell.TheVariants as cell
-use Rattle.heat.specs.declared.CellAnswer.{CellAnswer}
-use Rattle.heat.specs.declared.CellAnswer.TheVariants as answer
+use Rattle.heat.specs.CellAnswer.{CellAnswer}
+use Rattle.heat.specs.CellAnswer as answer
 
 -- ---- the listing of a sheet
 

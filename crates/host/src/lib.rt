@@ -3,38 +3,46 @@
 
 #![tactic(auto)]
 
-ghost use Rattle.std.specs.Prelude.{◌≡◌};
+ghost use Rattle.std.specs.Prelude.{◌≡◌, ◌+◌};
+ghost use Rattle.refusal.specs.Numbers.{number_of};
+ghost use Rattle.heat.specs.CellAnswer.{cell_said};
 ghost use Rattle.host.specs.Call.{Hosts, host_cell, HostsCell};
 
-use heat::{Cell, CellAnswer};
-use listing::Listing;
+use heat::{Cell, cell_of, value_of};
+use listing::list_sheet;
+use refusal::Refusal;
 use site::Context;
 
 // What a refusal's number is added to.
-const REFUSED: u64 = 1000000;
+const REFUSED: u64 = 1_000_000;
+
+// 1,000,000 plus the number of a refusal.
+fn refused(refusal: Refusal) -> u64
+    ensures { result ≡ 1000000 + number_of refusal.rule }
+{
+    REFUSED + u64::from(refusal.number())
+}
 
 // Lists a sheet. Gives the text's length, or 1,000,000 plus the number of the refusal; then the buffer is zero.
 #[unsafe(no_mangle)]
 pub extern "C" fn sazamkhri_listing(sheet: &[u8], text: &mut [u8]) -> u64
     ensures { Hosts sheet.now text.old result text.new }
 {
-    let r = listing::list_sheet(sheet, text);
-    match r {
-        Listing::Text(n) => n as u64,
-        Listing::Refused { number, place: _ } => REFUSED + number as u64,
+    match list_sheet(sheet, text) {
+        Ok(length) => length as u64,
+        Err(refusal) => refused(refusal),
     }
 }
 
 // 0 for a blank cell, 1 for one with a value, or 1,000,000 plus the number of the refusal.
-fn kind_of(r: CellAnswer) -> u64
-    ensures { result ≡ host_cell r }
+#[tactic(auto, unfolding(crate::specs::Call::host_cell))]
+fn kind_of(r: Result<Cell, Refusal>) -> u64
+    ensures { result ≡ host_cell (cell_said r) }
 {
     match r {
-        CellAnswer::Cell(c) => match c {
-            Cell::Blank => 0,
-            Cell::Value(_) => 1,
-        },
-        CellAnswer::Refused { number, place: _ } => REFUSED + number as u64,
+        Ok(Cell::Blank) => 0,
+        Ok(Cell::Value(_)) => 1,
+        Err(refusal) => refused(refusal),
     }
 }
 
@@ -50,7 +58,7 @@ pub extern "C" fn sazamkhri_cell(
 ) -> u64
     ensures { HostsCell contexts list.now entries first second result value.new }
 {
-    let r = heat::cell_of(contexts, list, entries, Context(first), Context(second));
-    *value = heat::value_of(r);
+    let r = cell_of(contexts, list, entries, Context(first), Context(second));
+    *value = value_of(r);
     kind_of(r)
 }

@@ -10,8 +10,8 @@ use borrow.Author.Tests.{lt-ltb, le-ltb}
 use Rattle.site.specs.Tables.{site_of}
 use Rattle.words.proofs.Split.{by_le}
 use Rattle.tables.specs.Checks.{tables_check}
-use Rattle.tables.specs.declared.Check.{Check}
-use Rattle.tables.specs.declared.Check.TheVariants as check
+use Rattle.tables.specs.Check.{Check}
+use Rattle.tables.specs.Check as check
 use Rattle.tables.proofs.Refusals.{refused_exactly, fine_exactly, breaks_number}
 use Rattle.entries.specs.Entries.{width}
 use Rattle.search.specs.Outcome.{Tells, zeros, three_counts, trail_need}

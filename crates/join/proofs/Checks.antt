@@ -7,7 +7,7 @@ use lib.Dec.{ltb}
 use borrow.Author.Tests.{ltb-false}
 use Rattle.tables.specs.Checks.{tables_check}
 use Rattle.tables.specs.Sound.{Sound}
-use Rattle.tables.specs.declared.Check.TheVariants as check
+use Rattle.tables.specs.Check as check
 use Rattle.tables.proofs.Checks.{both_fine, when_fine}
 use Rattle.tables.proofs.Checks as tables
 use Rattle.entries.specs.Entries.{width}

@@ -20,7 +20,7 @@ use Rattle.words.specs.Words.{padded}
 use Rattle.words.proofs.OneAnswer.{Says}
 use Rattle.entries.specs.Entries.{width, entry_of, first_four, entries}
 use Rattle.entries.specs.declared.Entry.{Entry}
-use Rattle.search.specs.Outcome.{Tells, zeros, three_counts, listed_words, met_words}
+use Rattle.search.specs.Outcome.{answer_said, Tells, zeros, three_counts, listed_words, met_words}
 use Rattle.join.specs.Join.{JoinCall, call_site, Joins}
 use Rattle.join.specs.Refusals.{CallCause}
 use Rattle.join.proofs.Accepted.{told_rises, told_found, told_counts, told_entries, told_behind}
@@ -166,11 +166,14 @@ module _ {c : JoinCall} (j : Joins c) where
 pub demand_1 : Says 5 join_kinds.ps join_kinds.r join.Post (λ κs a u x. Demand1 (call_of κs a u x))
 demand_1 κs a u x p = joins_1 (join_says κs a u x p)
 
-pub demand_2 : Says 5 join_kinds.ps join_kinds.r join.Post (λ κs a u x. (f e m : ℕ) → Tells u 0 (f ∷ e ∷ m ∷ []) → Demand2 (call_of κs a u x) f)
+pub demand_2 : Says 5 join_kinds.ps join_kinds.r join.Post (λ κs a u x. (f e m : ℕ)
+    → Tells (answer_said u) 0 (f ∷ e ∷ m ∷ []) → Demand2 (call_of κs a u x) f)
 demand_2 κs a u x p f e m t = joins_2 (join_says κs a u x p) t
 
-pub fifth_words : Says 5 join_kinds.ps join_kinds.r join.Post (λ κs a u x. (f e m : ℕ) → Tells u 0 (f ∷ e ∷ m ∷ []) → FifthWords (call_of κs a u x) f)
+pub fifth_words : Says 5 join_kinds.ps join_kinds.r join.Post (λ κs a u x. (f e m : ℕ)
+    → Tells (answer_said u) 0 (f ∷ e ∷ m ∷ []) → FifthWords (call_of κs a u x) f)
 fifth_words κs a u x p f e m t = joins_fifth (join_says κs a u x p) t
 
-pub demand_3 : Says 5 join_kinds.ps join_kinds.r join.Post (λ κs a u x. (f e m : ℕ) → Tells u 0 (f ∷ e ∷ m ∷ []) → Demand3 (call_of κs a u x) e m)
+pub demand_3 : Says 5 join_kinds.ps join_kinds.r join.Post (λ κs a u x. (f e m : ℕ)
+    → Tells (answer_said u) 0 (f ∷ e ∷ m ∷ []) → Demand3 (call_of κs a u x) e m)
 demand_3 κs a u x p f e m t = joins_3 (join_says κs a u x p) t

@@ -18,8 +18,8 @@ use Rattle.tables.specs.Checks.{sizes_check, tables_check}
 use Rattle.tables.specs.Rules.{end_rule, offset_rule, member, code_rule_by, code_rule}
 use Rattle.entries.specs.Entries.{width}
 use Rattle.search.specs.Outcome.{Outcome, outcome, zeros, search_of}
-use Rattle.search.specs.declared.Answer.{Answer}
-use Rattle.search.specs.declared.Answer.TheVariants.{Listed, Refused}
+use Rattle.search.specs.Answer.{Answer}
+use Rattle.search.specs.Answer.{Listed, Refused}
 use Rattle.join.specs.Join.{rooms_check, call_check, join_of}
 
 -- ---- a case

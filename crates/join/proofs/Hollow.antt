@@ -2,7 +2,7 @@
 -- gives the same list each time, one leaves its buffers, one invents its counts. Like the call, a version is asked for 16-bit words alone.
 use mathlib.Core.List.{List, [], ◌∷◌}
 use mathlib.Core.Logic.{◌⊎◌, ⊎_elim}
-use mathlib.Core.Path.{◌≡◌, sym, ap, ◌∙◌}
+use mathlib.Core.Path.{◌≡◌, sym, ap, subst, ◌∙◌}
 use Prim.Native.Nat.{ℕ, zero, suc, ◌*◌, ◌≤◌}
 use native.Mathlib.Nat.{le_of_eq}
 use native.Mathlib.Omega.{arith}
@@ -17,9 +17,12 @@ use Rattle.site.specs.Events.{events, met}
 use Rattle.site.specs.Tables.{site_of}
 use Rattle.words.specs.Words.{Words16, padded}
 use Rattle.entries.specs.Entries.{width}
-use Rattle.search.specs.Outcome.{Tells, Outcome, outcome}
+use Rattle.std.specs.Prelude.{Result}
+use Rattle.refusal.specs.declared.Refusal.{Refusal}
+use Rattle.search.specs.declared.Counted.{Counted}
+use Rattle.search.specs.Outcome.{answer_said, Tells, Outcome, outcome}
 use Rattle.search.proofs.Answers.{tells_refused, tells_listed}
-use Rattle.search.specs.declared.Answer.TheVariants.{Listed, Refused}
+use Rattle.search.specs.Answer.{Answer, Listed, Refused}
 use Rattle.join.proofs.Outcomes.{listed_only}
 use Rattle.join.proofs.Only.{join_says}
 use Rattle.join.proofs.join.Kinds as join_kinds
@@ -65,9 +68,11 @@ args_of κs i = (i.k, (lent i.offsets, (lent i.codes, (lent_mut i.list, (lent_mu
 abbrev pub exit_of : (κs : Lfts 5) → Given → Outcome → AtExit (ended_of 5 join_kinds.ps join_kinds.r) κs
 exit_of κs i o = (i.k, (lent i.offsets, (lent i.codes, (lent_mut o.list, (lent_mut o.work, (lent_mut o.trail, tt))))))
 
--- it meets the contract in the code
+-- it meets the contract in the code: its answer is what some result says, and that result and its buffers meet it
 abbrev pub MeetsContract : Version → Type 0
-MeetsContract f = (κs : Lfts 5) (i : Given) → InWords i → join.Post κs (args_of κs i) (f i).answer (exit_of κs i (f i))
+MeetsContract f =
+    (κs : Lfts 5) (i : Given) → InWords i
+    → (r : Result Counted Refusal) × (answer_said r ≡ (f i).answer) × join.Post κs (args_of κs i) r (exit_of κs i (f i))
 
 -- lifetimes of five lent slices: which they are makes no difference
 nowhere : Lfts 5
@@ -135,7 +140,10 @@ module _ (f : Version) (meets : MeetsContract f) where
   -- on a case of the table a version does what the documents tell
   as_told : (c : Case) → InWords (given c) → asked area c ≡ told area c → f (given c) ≡ (told area c).outcome
   unfolding asked
-  as_told c w e = meets nowhere (given c) w ∙ ap (λ (t : Told). t.outcome) e
+  as_told c w e =
+      let m = meets nowhere (given c) w in
+      let o = f (given c) in
+      ap (λ (a : Answer). outcome a o.list o.work o.trail) (sym m.1) ∙ m.2 ∙ ap (λ (t : Told). t.outcome) e
 
   -- it refuses everything: not P9
   pub refuses_everything : ((i : Given) → InWords i → (n : ℕ) × (p : ℕ) × Tells (f i).answer n (p ∷ [])) → ⊥
@@ -165,9 +173,11 @@ module _ (f : Version) (meets : MeetsContract f) where
   pub invents_counts : (i : Given) → InWords i → (f₁ e m : ℕ) → Tells (f i).answer 0 (f₁ ∷ e ∷ m ∷ [])
       → ((e ≡ events in_use (site_of i.offsets i.codes) i.k → ⊥) ⊎ (m ≡ met in_use (site_of i.offsets i.codes) i.k → ⊥)) → ⊥
   invents_counts i w f₁ e m t =
-      let j = join_says nowhere (args_of nowhere i) (f i).answer (exit_of nowhere i (f i)) (meets nowhere i w) in
-      let a = listed_only j (tells_listed _ t) in
-      let same = sym t.1 ∙ (j.found a.0 a.1).told.1 in
+      let k = meets nowhere i w in
+      let j = join_says nowhere (args_of nowhere i) k.0 (exit_of nowhere i (f i)) k.2 in
+      let told = subst (λ (a : Answer). Tells a 0 (f₁ ∷ e ∷ m ∷ [])) (sym k.1) t in
+      let a = listed_only j (tells_listed _ told) in
+      let same = sym told.1 ∙ (j.found a.0 a.1).told.1 in
       let x : e ≡ events in_use (site_of i.offsets i.codes) i.k = cc same in
       let y : m ≡ met in_use (site_of i.offsets i.codes) i.k = cc same in
       ⊎_elim (λ n. n x) (λ n. n y)

@@ -4,13 +4,14 @@ use contract.Lifetimes.{Lfts}
 use denote.Triple.Clauses.{AtExit}
 use borrow.Fn.Kinds.{Dens, res_t, ended_of}
 use Rattle.words.proofs.OneAnswer.{Says, OneAnswer}
-use Rattle.search.specs.Outcome.{outcome}
+use Rattle.search.specs.Outcome.{answer_said, seen}
+use Rattle.search.proofs.Answers.{seen_only}
 use Rattle.join.specs.Join.{JoinCall, Joins}
 use Rattle.join.proofs.Outcomes.{joins}
 use Rattle.join.proofs.join.Kinds as join_kinds
 use Rattle.join.proofs.join.Reads as join
 
--- the call with the arguments a that answers u and leaves x: of the parameters, list, work area and trail are the fourth, fifth and sixth
+-- the call with the arguments a that results in u and leaves x: of the parameters, list, work area and trail are the fourth, fifth and sixth
 abbrev pub call_of : (κs : Lfts 5) → Dens κs join_kinds.ps → (res_t join_kinds.r κs).Denot → AtExit (ended_of 5 join_kinds.ps join_kinds.r) κs → JoinCall
 call_of κs a u x = record {
   k = a.0;
@@ -19,7 +20,7 @@ call_of κs a u x = record {
   list = a.1.1.1.0.now;
   work = a.1.1.1.1.0.now;
   trail = a.1.1.1.1.1.0.now;
-  answer = u;
+  answer = answer_said u;
   list' = x.1.1.1.0.now;
   work' = x.1.1.1.1.0.now;
   trail' = x.1.1.1.1.1.0.now;
@@ -28,5 +29,5 @@ call_of κs a u x = record {
 pub join_says : Says 5 join_kinds.ps join_kinds.r join.Post (λ κs a u x. Joins (call_of κs a u x))
 join_says κs a u x p = joins (call_of κs a u x) p
 
-pub join_only : OneAnswer 5 join_kinds.ps join_kinds.r join.Post (λ κs u x. outcome u x.1.1.1.0.now x.1.1.1.1.0.now x.1.1.1.1.1.0.now)
-join_only κs a u v x y p q = p ∙ sym q
+pub join_only : OneAnswer 5 join_kinds.ps join_kinds.r join.Post (λ κs u x. seen u x.1.1.1.0.now x.1.1.1.1.0.now x.1.1.1.1.1.0.now)
+join_only κs a u v x y p q = seen_only (p ∙ sym q)

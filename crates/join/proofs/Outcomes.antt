@@ -9,10 +9,10 @@ use lib.ListN.{length}
 use borrow.Author.Tests.{lt-ltb, le-ltb}
 use Rattle.site.specs.Tables.{site_of}
 use Rattle.words.proofs.Split.{by_le}
-use Rattle.tables.specs.declared.Check.{Check}
-use Rattle.tables.specs.declared.Check.TheVariants as check
+use Rattle.tables.specs.Check.{Check}
+use Rattle.tables.specs.Check as check
 use Rattle.search.specs.Outcome.{Outcome, outcome, trail_need, search_of}
-use Rattle.search.specs.declared.Answer.TheVariants as answer
+use Rattle.search.specs.Answer as answer
 use Rattle.search.proofs.Answers.{tells_refused, refused_tells, tells_listed, listed_tells}
 use Rattle.join.specs.Join.{call_check, join_of, JoinCall, call_site, call_checked, call_outcome, call_owes, Unchanged, TrailFull, Found, Joins}
 

@@ -5,12 +5,12 @@ use Rattle.site.specs.Site.{Site}
 use Rattle.site.specs.Tables.{site_of}
 use Rattle.words.specs.Words.{padded}
 use Rattle.tables.specs.Checks.{when, ◌and_then◌, tables_check}
-use Rattle.tables.specs.declared.Check.{Check}
-use Rattle.tables.specs.declared.Check.TheVariants as check
+use Rattle.tables.specs.Check.{Check}
+use Rattle.tables.specs.Check as check
 use Rattle.entries.specs.Entries.{width}
 use Rattle.search.specs.Outcome.{Tells, Outcome, outcome, zeros, three_counts, trail_need, listed_words, met_words, search_of}
-use Rattle.search.specs.declared.Answer.{Answer}
-use Rattle.search.specs.declared.Answer.TheVariants as answer
+use Rattle.search.specs.Answer.{Answer}
+use Rattle.search.specs.Answer as answer
 
 -- ---- the checks 1 to 7
 

@@ -5,48 +5,34 @@
 #![tactic(auto)]
 
 ghost use Rattle.std.specs.Prelude.{◌≡◌};
-ghost use Rattle.search.specs.Outcome.{outcome};
-ghost use Rattle.join.specs.Join.{rooms_check, call_check, join_of};
+ghost use Rattle.tables.specs.Check.{check_said};
+ghost use Rattle.search.specs.Outcome.{answer_said, outcome};
+ghost use Rattle.join.specs.Join.{rooms_check, join_of};
 
 use entries::WIDTH;
-pub use search::Answer;
+use refusal::{Refusal, Rule};
+pub use search::Counted;
 use search::search;
-use tables::{Check, check_tables};
+use tables::check_tables;
 
 // The least work area.
 const WORK: usize = 10240;
 
 // 6 and 7: the room of the list, and of the work area.
-fn check_rooms(k: u16, list: usize, work: usize) -> Check
-    ensures { result ≡ rooms_check k list work }
+#[tactic(auto, unfolding(crate::specs::Join::rooms_check))]
+fn check_rooms(k: u16, list: usize, work: usize) -> Result<(), Refusal>
+    ensures { check_said result ≡ rooms_check k list work }
 {
-    if list < WIDTH * (k as usize) {
-        return Check::Refused {
-            number: 6,
-            place: 0,
-        };
+    if list < WIDTH * usize::from(k) {
+        return Err(Refusal::at(Rule::ListRoom, 0));
     }
     if work < WORK {
-        return Check::Refused {
-            number: 7,
-            place: 0,
-        };
+        return Err(Refusal::at(Rule::WorkRoom, 0));
     }
-    Check::Fine
+    Ok(())
 }
 
-// The checks 1 to 7.
-fn check_call(k: u16, offsets: &[u16], codes: &[u16], list: usize, work: usize) -> Check
-    ensures { result ≡ call_check k offsets.now codes.now list work }
-{
-    let tables = check_tables(k, offsets, codes);
-    let Check::Fine = tables else {
-        return tables;
-    };
-    check_rooms(k, list, work)
-}
-
-// The k most alike pairs of contexts on the list, and on the trail the pairs met; its answer counts them and the events done.
+// The k most alike pairs of contexts on the list, and on the trail the pairs met; it counts them and the events done, or refuses.
 pub fn join(
     k: u16,
     offsets: &[u16],
@@ -54,13 +40,11 @@ pub fn join(
     list: &mut [u16],
     work: &mut [u16],
     trail: &mut [u16],
-) -> Answer
-    ensures { outcome result list.new work.new trail.new
+) -> Result<Counted, Refusal>
+    ensures { outcome (answer_said result) list.new work.new trail.new
         ≡ join_of k offsets.now codes.now list.old work.old trail.old }
 {
-    let checked = check_call(k, offsets, codes, list.len(), work.len());
-    if let Check::Refused { number, place } = checked {
-        return Answer::Refused { number, place };
-    }
-    search(k as usize, offsets, codes, list, work, trail)
+    let tables = check_tables(k, offsets, codes)?;
+    check_rooms(k, list.len(), work.len())?;
+    search(usize::from(k), tables, list, work, trail)
 }

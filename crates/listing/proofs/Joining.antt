@@ -14,15 +14,15 @@ use Rattle.site.specs.Tables.{site_of, offsets_of, all_codes}
 use Rattle.site.proofs.Top.{top_length}
 use Rattle.words.specs.Words.{padded}
 use Rattle.tables.specs.Checks.{tables_check}
-use Rattle.tables.specs.declared.Check.{Check}
-use Rattle.tables.specs.declared.Check.TheVariants as check
+use Rattle.tables.specs.Check.{Check}
+use Rattle.tables.specs.Check as check
 use Rattle.tables.proofs.Checks.{accepted}
 use Rattle.tables.proofs.Cuts.{site_back}
 use Rattle.tables.proofs.Refusals.{refused_exactly, fine_exactly}
 use Rattle.agenda.proofs.Counts.{events_many}
 use Rattle.search.specs.Outcome.{outcome, listed_words}
-use Rattle.search.specs.declared.Answer.{Answer}
-use Rattle.search.specs.declared.Answer.TheVariants as answer
+use Rattle.search.specs.Answer.{Answer}
+use Rattle.search.specs.Answer as answer
 use Rattle.search.proofs.Answers.{refused_tells, listed_tells}
 use Rattle.join.specs.Join.{join_of, JoinCall, call_site, Joins}
 use Rattle.join.specs.Refusals.{tables, list_room, work_room, trail_room, CallCause}
@@ -33,7 +33,7 @@ use Rattle.sheet.specs.Reading.{Sheet}
 use Rattle.sheet.proofs.Lines.{no_value}
 use Rattle.listing.specs.Listing.{joined}
 use Rattle.listing.specs.Inside.{room_for_list, counts_of, SheetJoined, TablesJoined}
-use Rattle.listing.specs.declared.Joined.TheVariants as told
+use Rattle.listing.specs.Joined as told
 
 -- ---- the counts of a site
 

@@ -11,8 +11,8 @@ use Rattle.site.specs.Tables.{offsets_of, all_codes}
 use Rattle.site.proofs.Top.{top_length}
 use Rattle.words.proofs.Split.{by_le}
 use Rattle.tables.specs.Sound.{Sound}
-use Rattle.tables.specs.declared.Check.{Check}
-use Rattle.tables.specs.declared.Check.TheVariants as check
+use Rattle.tables.specs.Check.{Check}
+use Rattle.tables.specs.Check as check
 use Rattle.tables.proofs.Checks.{accepted}
 use Rattle.tables.proofs.Cuts.{site_back}
 use Rattle.agenda.proofs.Counts.{events_many}
@@ -21,8 +21,8 @@ use Rattle.sheet.specs.Reading.{Sheet, read_sheet}
 use Rattle.sheet.proofs.Lines.{no_value, then_value}
 use Rattle.listing.specs.Listing.{joined}
 use Rattle.listing.specs.Inside.{counts_of, SheetJoined}
-use Rattle.listing.specs.declared.Joined.{Joined}
-use Rattle.listing.specs.declared.Joined.TheVariants as told
+use Rattle.listing.specs.Joined.{Joined}
+use Rattle.listing.specs.Joined as told
 use Rattle.listing.proofs.Joining.{sheet_checked, joined_stops, joined_over, joined_is, events_few}
 
 -- ---- the counts that were told

@@ -16,8 +16,8 @@ use Rattle.pen.proofs.Past.{line_moved}
 use Rattle.listing.specs.Listing.{refused_key, refused_text, listing_of, fitted, listing_in, printed}
 use Rattle.listing.specs.Answers.{listing_by, bytes_of}
 use Rattle.listing.specs.Calls.{Lists, page_room, Prints}
-use Rattle.listing.specs.declared.Listing.{Listing}
-use Rattle.listing.specs.declared.Listing.TheVariants as listing
+use Rattle.listing.specs.Answer.{Listing}
+use Rattle.listing.specs.Answer as listing
 use Rattle.listing.proofs.Short.{digits_five, line_short, listing_short}
 use Rattle.listing.proofs.Refusals.{SmallRefusal, refusal_small}
 use Rattle.listing.proofs.Telling.{by_text, by_refused}

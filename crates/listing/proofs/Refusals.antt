@@ -11,8 +11,8 @@ use Rattle.site.specs.Events.{met}
 use Rattle.site.specs.Tables.{offsets_of, all_codes}
 use Rattle.words.proofs.Split.{by_le}
 use Rattle.tables.specs.Refusals.{Breaks, wrong_k, wrong_sizes, wrong_offset, large_code, code_falls}
-use Rattle.tables.specs.declared.Check.{Check}
-use Rattle.tables.specs.declared.Check.TheVariants as check
+use Rattle.tables.specs.Check.{Check}
+use Rattle.tables.specs.Check as check
 use Rattle.tables.proofs.Refusals.{refused_exactly}
 use Rattle.sheet.specs.Read.{value, refused}
 use Rattle.sheet.specs.Reading.{Sheet, read_sheet}

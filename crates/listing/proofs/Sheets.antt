@@ -12,12 +12,12 @@ use Rattle.sheet.specs.Reading.{Sheet, read_sheet}
 use Rattle.sheet.proofs.Accepted.{read_fits}
 use Rattle.sheet.proofs.Tables.{offsets_length}
 use Rattle.reader.specs.Answers.{reading_of, offsets_by, codes_by}
-use Rattle.reader.specs.declared.Reading.{Reading}
-use Rattle.reader.specs.declared.Reading.TheVariants as reading
+use Rattle.reader.specs.Reading.{Reading}
+use Rattle.reader.specs.Reading as reading
 use Rattle.listing.specs.Listing.{joined}
 use Rattle.listing.specs.Inside.{SheetJoined, TablesJoined}
-use Rattle.listing.specs.declared.Joined.{Joined}
-use Rattle.listing.specs.declared.Joined.TheVariants as told
+use Rattle.listing.specs.Joined.{Joined}
+use Rattle.listing.specs.Joined as told
 use Rattle.listing.proofs.Joining.{told_refused}
 
 -- an answer that refuses

@@ -9,8 +9,8 @@ use Rattle.sheet.specs.Read.{Read, value, refused, read_number, read_values}
 use Rattle.listing.specs.Listing.{listing_in}
 use Rattle.listing.specs.Answers.{listing_number, listing_values, ListingTells, length_only, listing_by}
 use Rattle.listing.specs.Calls.{Lists}
-use Rattle.listing.specs.declared.Listing.{Listing}
-use Rattle.listing.specs.declared.Listing.TheVariants as listing
+use Rattle.listing.specs.Answer.{Listing}
+use Rattle.listing.specs.Answer as listing
 use Rattle.listing.proofs.Refusals.{listing_numbered}
 
 -- ---- an answer

@@ -1,8 +1,8 @@
 -- The answer for each reading of a listing, what the answer tells, and the bytes of the lent text.
 use Rattle.std.specs.Prelude.{List, [], ◌∷◌, ◌≡◌, ℕ, length}
 use Rattle.sheet.specs.Read.{Read, value, refused}
-use Rattle.listing.specs.declared.Listing.{Listing}
-use Rattle.listing.specs.declared.Listing.TheVariants as listing
+use Rattle.listing.specs.Answer.{Listing}
+use Rattle.listing.specs.Answer as listing
 
 -- the number of an answer: that of its refusal, and 0 where it is a text
 abbrev pub listing_number : Listing → ℕ

@@ -3,7 +3,7 @@ use Rattle.std.specs.Prelude.{List, ◌≡◌, ℕ, length}
 use Rattle.words.specs.Words.{padded}
 use Rattle.listing.specs.Listing.{listing_of, listing_in, printed}
 use Rattle.listing.specs.Answers.{listing_by, bytes_of}
-use Rattle.listing.specs.declared.Listing.{Listing}
+use Rattle.listing.specs.Answer.{Listing}
 
 -- `list_sheet` of a sheet into a lent text: the answer, and the text afterwards, with zeros behind the listing.
 -- The answer is given whole, since a text and a refusal have one value each; `lists_told` (proofs/Telling.antt) gives its number and value.

@@ -1,16 +1,17 @@
 -- What the functions below the calls leave: the counts and the list of a sheet that is joined, and a listing at the front of a text.
-use Rattle.std.specs.Prelude.{List, ◌≡◌, ℕ, ◌*◌, length}
+use Rattle.std.specs.Prelude.{List, ◌≡◌, ℕ, ◌*◌, ◌/◌, length}
 use Rattle.site.specs.Measure.{in_use}
 use Rattle.site.specs.Events.{found, events, met}
 use Rattle.site.specs.Tables.{offsets_of, all_codes}
 use Rattle.words.specs.Words.{padded, Begins}
-use Rattle.entries.specs.Entries.{width}
+use Rattle.entries.specs.declared.Entry.{Entry}
+use Rattle.entries.specs.Entries.{width, entries}
 use Rattle.search.specs.Outcome.{listed_words}
 use Rattle.sheet.specs.Read.{Read, value, refused}
 use Rattle.sheet.specs.Reading.{Sheet}
-use Rattle.listing.specs.declared.Listing.{Listing}
-use Rattle.listing.specs.declared.Joined.{Joined}
-use Rattle.listing.specs.declared.Joined.TheVariants as told
+use Rattle.listing.specs.Answer.{Listing}
+use Rattle.listing.specs.Joined.{Joined}
+use Rattle.listing.specs.Joined as told
 use Rattle.listing.specs.Listing.{joined, fitted}
 use Rattle.listing.specs.Answers.{listing_by, bytes_of}
 
@@ -32,6 +33,10 @@ pub record SheetJoined (x : Read Sheet) (list : List ℕ) (r : Joined) : Type 0 
 abbrev pub TablesJoined : ℕ → List ℕ → List ℕ → List ℕ → Joined → Type 0
 TablesJoined k offsets codes list r =
     (s : Sheet) → k ≡ s.k → offsets ≡ offsets_of s.site → codes ≡ all_codes s.site → SheetJoined (joined s) list r
+
+-- the entries whose words a list is made of
+abbrev pub entries_in : List ℕ → List Entry
+entries_in list = entries (length list / width) list
 
 -- a listing, x: the answer, and the bytes at the front of the lent text
 pub record Put (x : Read (List ℕ)) (now : List ℕ) (r : Listing) : Type 0 where

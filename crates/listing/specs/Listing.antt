@@ -6,8 +6,8 @@ use Rattle.site.specs.Events.{found, events, met}
 use Rattle.site.specs.Tables.{offsets_of, all_codes}
 use Rattle.words.specs.Words.{flat}
 use Rattle.tables.specs.Checks.{tables_check}
-use Rattle.tables.specs.declared.Check.{Check}
-use Rattle.tables.specs.declared.Check.TheVariants.{Fine, Refused}
+use Rattle.tables.specs.Check.{Check}
+use Rattle.tables.specs.Check.{Fine, Refused}
 use Rattle.entries.specs.declared.Entry.{Entry}
 use Rattle.entries.specs.Entries.{entry_of, words}
 use Rattle.sheet.specs.Read.{Read, value, refused, ◌then◌}

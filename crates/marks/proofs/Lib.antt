@@ -1,6 +1,6 @@
 -- Bits    the bits of a number: what one of them tells, and one more of them set
 -- Marked  the marks of some codes: one more code, what a mark tells, and that the codes marked are those shared
--- Loops   the loops of `mark`, `count_from` and `marked_from`
+-- Loops   the loops of `mark`, `count` and `marked_from`
 -- Only    one answer only
 pub mod Bits
 pub mod Marked

@@ -1,15 +1,16 @@
 -- Lines behind a pen: `Added` for one line, and for two pieces one after the other.
 use mathlib.Core.List.{List, ◌++◌, append_assoc}
-use mathlib.Core.Path.{◌≡◌, sym, subst, ◌∙◌}
-use Prim.Native.Nat.{ℕ, ◌<◌}
+use mathlib.Core.Path.{◌≡◌, refl, sym, ap, subst, ◌∙◌}
+use Prim.Native.Nat.{ℕ, ◌+◌, ◌<◌}
 use native.Mathlib.Omega.{arith}
-use lib.ListN.{length, length-append}
+use borrow.Author.Tests.{le-leb, lt-leb}
+use lib.ListN.{length, get_or, length-append}
+use Rattle.words.proofs.Split.{by_le}
 use Rattle.pen.specs.declared.Pen.{Pen}
-use Rattle.pen.specs.declared.Penned.{Penned}
-use Rattle.pen.specs.declared.Penned.TheVariants.{On, Full}
-use Rattle.pen.specs.Lines.{Fits, Lined, Past}
-use Rattle.pen.specs.Added.{Added}
-use Rattle.pen.proofs.Past.{no_room, past_none, past_line}
+use Rattle.pen.specs.Lines.{Fits, moved_by, Lined, Past}
+use Rattle.pen.specs.Added.{Penned, On, Full, Added, LinedIf}
+use Rattle.pen.proofs.Grown.{Grows, one_more, piece_fits}
+use Rattle.pen.proofs.Past.{line_stayed, has_room, no_room, past_none, past_fits, Grown}
 
 -- a pen is not Full
 never_full : {C : Type 0} {q : Pen} → On q ≡ Full → C
@@ -42,8 +43,8 @@ past_then h g = record {
 
 module _ {bs old mid : List ℕ} {p : Pen} {r : Penned} (w : Added bs old mid p r) where
   -- nothing more fits
-  pub added_stop : (cs : List ℕ) → r ≡ Full → Added (bs ++ cs) old mid p r
-  added_stop cs e = record { long = w.long; on = λ q f. never_full (sym f ∙ e); full = λ f. rw length-append (omega (arith, w.full e)) }
+  pub added_stop : (cs : List ℕ) → r ≡ Full → Added (bs ++ cs) old mid p Full
+  added_stop cs e = added_none w.long (rw length-append (omega (arith, w.full e)))
 
   -- a piece more behind it
   pub added_then : Fits p old → {q : Pen} → r ≡ On q → {cs now : List ℕ} {s : Penned} → Added cs mid now q s → Added (bs ++ cs) old now p s
@@ -59,13 +60,39 @@ module _ {bs old mid : List ℕ} {p : Pen} {r : Penned} (w : Added bs old mid p 
   pub added_fits : {q : Pen} → r ≡ On q → Fits q mid
   added_fits {q} e = (w.on q e).fits
 
--- ---- one line
+-- ---- a line if it fits
 
-module _ {bs old now : List ℕ} {p q : Pen} (f : Fits p old) (w : Lined bs old now p q) (l : length now ≡ length old) where
-  -- the pen has moved
-  pub line_on : (q.place ≡ p.place → ⊥) → Added bs old now p (On q)
-  line_on m = added_on (past_line f (past_none f) w m)
+-- the two ways of a pen behind a line
+module _ {bs old now : List ℕ} {p q : Pen} (w : Lined bs old now p q) where
+  -- it has moved
+  pub if_moved : (q.place ≡ p.place → ⊥) → LinedIf bs old now p (On q)
+  if_moved m = record { pen = rw (le-leb (length bs) p.room (has_room w m)) (ap On w.pen); text = w.text }
 
   -- it has not
-  pub line_full : 0 < length bs → q.place ≡ p.place → Added bs old now p Full
-  line_full s e = added_none l (no_room w s e)
+  pub if_stayed : 0 < length bs → q.place ≡ p.place → LinedIf bs old now p Full
+  if_stayed s e = record { pen = rw (lt-leb (length bs) p.room (no_room w s e)); text = w.text }
+
+-- either way it is written behind the pen, or does not fit
+pub line_added : {bs old now : List ℕ} {p : Pen} {r : Penned} → Fits p old → LinedIf bs old now p r → Added bs old now p r
+line_added {bs} {old} {now} {p} {r} f w =
+    let line : Lined bs old now p (moved_by p (length bs)) = record { pen = refl; text = w.text } in
+    by_le (length bs) p.room
+    (λ l. let e : r ≡ On (moved_by p (length bs)) = w.pen ∙ rw (le-leb (length bs) p.room l) in
+    subst (λ z. Added bs old now p z) (sym e) (added_on (past_fits f (past_none f) line l)))
+    (λ l. let e : r ≡ Full = w.pen ∙ rw (lt-leb (length bs) p.room l) in
+    subst (λ z. Added bs old now p z) (sym e) (added_none (ap (λ (text : List ℕ). length text) (line_stayed line l).1) l))
+
+-- a line more behind what stands there
+pub added_line : {bs old mid : List ℕ} {p : Pen} {r : Penned} → Added bs old mid p r → Fits p old → {q : Pen} → r ≡ On q → {cs now : List ℕ} {s : Penned} → LinedIf cs mid now q s → Added (bs ++ cs) old now p s
+added_line w f e v = added_then w f e (line_added (added_fits w e) v)
+
+-- ---- a line for each element of a list
+
+module _ {A : Type 0} {T : List A → List ℕ} {piece : ℕ → A → List ℕ} (G : Grows T piece) (d : A) {xs : List A} {old mid : List ℕ} {p q : Pen} {i : ℕ} (f : Fits p old) (g : Grown T xs old mid p q i) (h : i < length xs) {now : List ℕ} {r : Penned} (w : Added (piece i (get_or xs i d)) mid now q r) where
+  -- one more
+  pub grown_next : {z : Pen} → r ≡ On z → Grown T xs old now p z (i + 1)
+  grown_next {z} e = record { within = omega arith; past = rw (one_more G xs i d h) (past_then g.past (w.on z e)) }
+
+  -- no room for it
+  pub grown_full : r ≡ Full → Added (T xs) old now p Full
+  grown_full e = added_none (w.long ∙ g.past.long) (omega (arith, f, g.past.fits, g.past.long, g.past.place, w.full e, piece_fits G xs i d h))

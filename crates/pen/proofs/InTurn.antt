@@ -6,10 +6,9 @@ use native.Mathlib.Omega.{arith}
 use lib.ListN.{length, length-append}
 use Rattle.words.proofs.Split.{by_le}
 use Rattle.pen.specs.declared.Pen.{Pen}
-use Rattle.pen.specs.declared.Penned.TheVariants.{On, Full}
 use Rattle.pen.specs.declared.Twice.{Twice}
 use Rattle.pen.specs.Lines.{Fits, moved_by, lined_by, Lined, LinedTwice, Past}
-use Rattle.pen.specs.Added.{Added}
+use Rattle.pen.specs.Added.{On, Full, Added}
 use Rattle.pen.proofs.Written.{written_long}
 use Rattle.pen.proofs.Past.{line_moved, line_stayed, fits_on, no_room, past_none, past_line, past_full}
 use Rattle.pen.proofs.Added.{added_on, added_none}

@@ -27,19 +27,15 @@ use denote.MutBor.{MutBor, as_bor}
 use denote.Ref.{MutRef}
 use denote.Slice.{finally, mut_slice_vals}
 use denote.Steps.{heard, nothing, only}
-use denote.Struct.Laws as LL
 use denote.Lend.{lends_ref, ref_back}
 use denote.Triple.Spec.{triple_of}
 use denote.Triple.Statement.{Contract, Triple}
 use denote.Triple.Call.{calls_at}
 use denote.Triple.Clauses.{ensured, lasts}
 use denote.Triple.Walked.{says}
-use borrow.Table.Owned as Owned
 use Rattle.sheet.specs.Text.{line_text}
 use Rattle.pen.specs.declared.Pen.{Pen}
 use Rattle.pen.specs.Lines.{Fits, Lined}
-use Rattle.pen.specs.contracts.Pen as P
-use Rattle.pen.proofs.Pen.TheLaws as P'
 use Rattle.pen.proofs.PenCell.{R, mach, cell, pen_in, pen_out}
 use Rattle.pen.specs.contracts.line as line
 use Rattle.pen.proofs.line.Symbol.{name as #pen·line}

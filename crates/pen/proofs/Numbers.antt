@@ -1,14 +1,13 @@
 -- The numbers of a line, one space between: how they grow, how they are measured, and how they are written.
-use mathlib.Core.Bool.{true, false}
+use mathlib.Core.Bool.{false}
 use mathlib.Core.Path.{◌≡◌, refl, sym, ◌∙◌}
 use mathlib.Core.List.{List, [], ◌∷◌, ◌++◌, append_assoc}
 use Prim.Native.Nat.{ℕ, suc, ◌+◌, ◌-◌, ◌≤◌, ◌<◌, zero-le}
 use native.Mathlib.Nat.{add-zero}
 use native.Mathlib.Omega.{arith}
 use lib.Dec.{leb}
-use borrow.Author.Tests.{eq-eqb, ne_eqb, le-leb, lt-leb}
+use borrow.Author.Tests.{eq-eqb, ne_eqb, lt-leb}
 use lib.ListN.{length, take, get_or, length-append}
-use lib.Seq.{take_all}
 use Rattle.sheet.specs.Number.{digits_of}
 use Rattle.sheet.specs.Text.{codes_text}
 use Rattle.pen.specs.Pieces.{Wrote, next_text}
@@ -71,9 +70,6 @@ module _ {room : ℕ} {ns : List ℕ} {left i : ℕ} (m : Measured room ns left 
   pub measured_full : left < need → false ≡ leb (length (codes_text ns)) room
   measured_full l = sym (lt-leb (length (codes_text ns)) room (omega (arith, m.counted, piece_fits numbers_grow ns i 0 h)))
 
-pub measured_end : {room : ℕ} {ns : List ℕ} {left i : ℕ} → Measured room ns left i → length ns ≤ i → true ≡ leb (length (codes_text ns)) room
-measured_end {room} {ns} {left} {i} m h = sym (le-leb (length (codes_text ns)) room (let e : left + length (codes_text ns) ≡ room = rw (take_all i ns h) at m.counted in omega arith))
-
 -- the loop of `numbers_at`: i numbers are written, up to `to`
 pub record Numbered (ns old now : List ℕ) (at to i : ℕ) : Type 0 where
   pub within : i ≤ length ns
@@ -90,6 +86,3 @@ module _ {ns old now : List ℕ} {at to i : ℕ} (w : Numbered ns old now at to 
 
   pub numbered_next : i < length ns → {last : List ℕ} {r : ℕ} → length last ≡ length now → Wrote (next_text i (get_or ns i 0)) to now last r → Numbered ns old last at r (i + 1)
   numbered_next h l v = record { within = omega arith; room = w.room; long = l ∙ w.long; wrote = rw (one_more numbers_grow ns i 0 h) (wrote_then (omega (arith, w.room, no_longer numbers_grow ns i)) w.wrote v) }
-
-  pub numbered_end : length ns ≤ i → Wrote (codes_text ns) at old now to
-  numbered_end h = rw (take_all i ns h) at w.wrote

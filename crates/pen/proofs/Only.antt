@@ -6,10 +6,13 @@ use Prim.Native.Nat.{ℕ}
 use Rattle.words.proofs.OneAnswer.{OneAnswer}
 use Rattle.pen.specs.declared.Pen.{Pen}
 use Rattle.pen.specs.declared.Twice.{Twice}
+use Rattle.pen.specs.Added.{Penned}
 use Rattle.pen.proofs.line.Kinds as line_kinds
 use Rattle.pen.proofs.line.Reads as line
 use Rattle.pen.proofs.line_at.Kinds as line_at_kinds
 use Rattle.pen.proofs.line_at.Reads as line_at_lem
+use Rattle.pen.proofs.line_if.Kinds as line_if_kinds
+use Rattle.pen.proofs.line_if.Reads as line_if
 use Rattle.pen.proofs.line_by.Kinds as line_by_kinds
 use Rattle.pen.proofs.line_by.Reads as line_by
 use Rattle.pen.proofs.two_lines.Kinds as two_lines_kinds
@@ -24,6 +27,9 @@ line_only κs a u v x y p q = λ i. ((p.pen ∙ sym q.pen) i, (p.text ∙ sym q.
 
 pub line_by_only : OneAnswer 3 line_by_kinds.ps line_by_kinds.r line_by.Post {B = Pen × List ℕ} (λ κs u x. (u, x.0.now))
 line_by_only κs a u v x y p q = λ i. ((p.pen ∙ sym q.pen) i, (p.text ∙ sym q.text) i)
+
+pub line_if_only : OneAnswer 3 line_if_kinds.ps line_if_kinds.r line_if.Post {B = Penned × List ℕ} (λ κs u x. (u, x.0.now))
+line_if_only κs a u v x y p q = λ i. ((p.pen ∙ sym q.pen) i, (p.text ∙ sym q.text) i)
 
 -- the place between the two lines is the same too
 pub two_lines_only : OneAnswer 5 two_lines_kinds.ps two_lines_kinds.r two_lines.Post {B = Twice × List ℕ} (λ κs u x. (u, x.0.now))

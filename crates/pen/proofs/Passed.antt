@@ -5,7 +5,7 @@ use mathlib.Core.List.{[], ◌∷◌, List}
 use lib.ListN.{length}
 use seplogic.Ra.Ura.{Ura}
 use base.Fraction.{full_share}
-use mir.Syntax.{named, erased, call}
+use mir.Syntax.{named, erased}
 use mir.Val.{Val}
 use base.Logic.{ent}
 use base.Fml.{Fml, GName, Lft, Share, flft}
@@ -14,12 +14,8 @@ use types.Kit.{Item, ‵, raw, some, given, later, mean, ◌⊛◌, ⋆, ◌$◌
 use denote.Builtin.{u8, u16}
 use denote.MutBor.{MutBor, as_bor}
 use denote.Slice.{slice_val, MutSlice, ShrSlice, finally, mut_slice_vals}
-use denote.Struct.Laws as LL
 use borrow.Rule.Slice.Lend.{kept_f, sl_relend, sl_relent_backˡ}
 use borrow.Table.Owned as Owned
-use Rattle.pen.specs.contracts.Pen as P
-use Rattle.pen.proofs.Pen.TheLaws as P'
-use Rattle.pen.specs.contracts.line as line
 
 -- a slice as it is passed: for which lifetime, with which share of its token
 pub record LentSlice : Type 0 where

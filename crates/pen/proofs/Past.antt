@@ -6,7 +6,7 @@ use Prim.Native.Nat.{ℕ, ◌+◌, ◌-◌, ◌≤◌, ◌<◌, zero-le}
 use native.Mathlib.Nat.{add-zero}
 use native.Mathlib.Omega.{arith}
 use borrow.Author.Tests.{le-leb, lt-leb}
-use lib.ListN.{length, take, get_or, length-append}
+use lib.ListN.{length, take, length-append}
 use lib.Seq.{take_all}
 use Rattle.words.proofs.Split.{by_le}
 use Rattle.sheet.specs.Text.{line_text}
@@ -14,7 +14,7 @@ use Rattle.pen.specs.declared.Pen.{Pen}
 use Rattle.pen.specs.Pieces.{written}
 use Rattle.pen.specs.Lines.{Fits, moved_by, lined_by, Lined, Past}
 use Rattle.pen.proofs.Written.{written_long, written_front}
-use Rattle.pen.proofs.Grown.{Grows, one_more, piece_fits}
+use Rattle.pen.proofs.Grown.{Grows}
 use Rattle.pen.proofs.Lined.{line_length}
 
 -- a line has at least its byte 10
@@ -54,9 +54,8 @@ past_none f = record { fits = f; long = refl; place = rw add-zero; front = rw ap
 
 module _ {bs old mid : List ℕ} {p q : Pen} (f : Fits p old) (h : Past bs old mid p q) {cs now : List ℕ} {r : Pen} (w : Lined cs mid now q r) where
   -- a line more behind them
-  pub past_line : (r.place ≡ q.place → ⊥) → Past (bs ++ cs) old now p r
-  past_line m =
-      let l = has_room w m in
+  pub past_fits : length cs ≤ q.room → Past (bs ++ cs) old now p r
+  past_fits l =
       let n = line_moved w l in
       let a : r.place ≡ q.place + length cs = ap (λ (z : Pen). z.place) n.0 in
       let b : r.room ≡ q.room - length cs = ap (λ (z : Pen). z.room) n.0 in
@@ -68,6 +67,9 @@ module _ {bs old mid : List ℕ} {p q : Pen} (f : Fits p old) (h : Past bs old m
         place = rw length-append (omega (arith, h.place));
         front = rw (a, n.1, written_front mid q.place cs t, h.front, append_assoc);
       }
+
+  pub past_line : (r.place ≡ q.place → ⊥) → Past (bs ++ cs) old now p r
+  past_line m = past_fits (has_room w m)
 
   -- they do not fit
   pub past_full : 0 < length cs → r.place ≡ q.place → p.room < length (bs ++ cs)
@@ -81,13 +83,6 @@ pub record Grown {A : Type 0} (T : List A → List ℕ) (xs : List A) (old now :
 module _ {A : Type 0} {T : List A → List ℕ} {piece : ℕ → A → List ℕ} (G : Grows T piece) where
   pub grown_start : (xs : List A) {old : List ℕ} {p : Pen} → Fits p old → Grown T xs old old p p 0
   grown_start xs {old} {p} f = record { within = zero-le; past = rw G.none (past_none f) }
-
-  module _ (d : A) {xs : List A} {old mid : List ℕ} {p q : Pen} {i : ℕ} (f : Fits p old) (g : Grown T xs old mid p q i) (h : i < length xs) {now : List ℕ} {r : Pen} (w : Lined (piece i (get_or xs i d)) mid now q r) where
-    pub grown_next : (r.place ≡ q.place → ⊥) → Grown T xs old now p r (i + 1)
-    grown_next m = record { within = omega arith; past = rw (one_more G xs i d h) (past_line f g.past w m) }
-
-    pub grown_full : 0 < length (piece i (get_or xs i d)) → r.place ≡ q.place → p.room < length (T xs)
-    grown_full s e = let k = past_full f g.past w s e in let n : length (T (take i xs) ++ piece i (get_or xs i d)) ≡ length (T (take i xs)) + length (piece i (get_or xs i d)) = length-append (T (take i xs)) (piece i (get_or xs i d)) in omega (arith, piece_fits G xs i d h)
 
 pub grown_end : {A : Type 0} {T : List A → List ℕ} {xs : List A} {old now : List ℕ} {p q : Pen} {i : ℕ} → Grown T xs old now p q i → length xs ≤ i → Past (T xs) old now p q
 grown_end {xs = xs} {i = i} g h = rw (take_all i xs h) at g.past

@@ -21,7 +21,6 @@ use Rattle.pen.proofs.Pen.TheLaws as P'
 use mathlib.Core.Path.{refl}
 use lib.ListN.{length}
 use lib.Dec.{T as Holds}
-use borrow.Table.Owned as Owned
 use native.Mathlib.Omega.{arith}
 use Rattle.pen.specs.Lines.{Fits}
 

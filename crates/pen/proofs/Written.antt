@@ -1,16 +1,16 @@
 -- Bytes written over a text: a piece more behind the last, a byte, digits, and the same in a lent tail.
-use mathlib.Core.Path.{◌≡◌, refl, sym, ap, ◌∙◌}
+use mathlib.Core.Path.{◌≡◌, refl, ap, ◌∙◌}
 use mathlib.Core.List.{List, [], ◌∷◌, ◌++◌, append-nil, append_assoc}
-use Prim.Native.Nat.{ℕ, ◌+◌, ◌-◌, ◌/◌, ◌%◌, ◌≤◌, ◌<◌, zero-le}
+use Prim.Native.Nat.{ℕ, ◌+◌, ◌-◌, ◌/◌, ◌%◌, ◌≤◌, ◌<◌}
 use native.Mathlib.Nat.{add-zero}
 use native.Mathlib.Numerals.{add-one}
 use native.Mathlib.Omega.{arith}
 use borrow.Rule.Slice.PartMut.{put_mid}
-use lib.ListN.{length, set, take, drop, get_or, length-append, length-drop, length-set, take-append-drop}
-use lib.Seq.{length-take-le, take_all, take_at, take-suc, drop-cons, drop-drop, drop-append-add, set_at, set_split}
-use Rattle.words.proofs.Tail.{tail_is, tail_written}
+use lib.ListN.{length, set, take, drop, length-append, length-drop, take-append-drop}
+use lib.Seq.{length-take-le, take_at, drop-cons, drop-drop, drop-append-add, set_at}
+use Rattle.words.proofs.Tail.{tail_written}
 use Rattle.sheet.specs.Number.{digits_of}
-use Rattle.sheet.proofs.Digits.{digits_small, digits_more, length_more}
+use Rattle.sheet.proofs.Digits.{digits_small, digits_more, length_more, length_one}
 use Rattle.pen.specs.Pieces.{written, Wrote}
 
 module _ (old : List ℕ) (at : ℕ) where
@@ -41,10 +41,6 @@ module _ (old : List ℕ) (at : ℕ) where
 pub wrote_then : {bs cs : List ℕ} {at r s : ℕ} {old mid now : List ℕ} → at + length bs ≤ length old → Wrote bs at old mid r → Wrote cs r mid now s → Wrote (bs ++ cs) at old now s
 wrote_then {bs} {cs} {at} {r} {s} {old} h v w = record { end = w.end ∙ rw (v.end, length-append) (omega arith); text = w.text ∙ rw (v.text, v.end, written_then old at bs h cs) }
 
--- bytes that are written keep the text's length
-pub wrote_long : {bs : List ℕ} {at r : ℕ} {old now : List ℕ} → at + length bs ≤ length old → Wrote bs at old now r → length now ≡ length old
-wrote_long {bs} {at} {r} {old} h w = rw w.text (written_long old at bs h)
-
 -- what `write_digits` leaves: of a digit
 pub one_written : (n : ℕ) (text : List ℕ) → n < 10 → length (digits_of n) ≤ length text
     → (1 ≡ length (digits_of n)) × (set text 0 (48 + n) ≡ digits_of n ++ drop (length (digits_of n)) text)
@@ -65,38 +61,10 @@ more_written n r text mid h room e m =
       rw (m, e, s, drop-cons text (length d) 0 (omega arith), set_at d _ _ (48 + n % 10) (length d) refl, digits_more n h, append_assoc, add-one),
     )
 
+-- the ways of `write_digits`
+pub ruleset writing = (length_more, length_one, one_written, more_written)
+
 -- what is written at the front of the lent tail is written at its start in the whole
 module _ (old : List ℕ) (at : ℕ) where
-  pub tail_fits : (n : ℕ) → at + n ≤ length old → n ≤ length (take (length old - at) (drop at old))
-  tail_fits n h = rw (tail_is old at, length-drop at old) (omega arith)
-
   pub tail_wrote : (bs : List ℕ) {part : List ℕ} {w : ℕ} → w ≡ length bs → part ≡ bs ++ drop (length bs) (take (length old - at) (drop at old)) → Wrote bs at old (put_mid at (length old - at) old part) (at + w)
   tail_wrote bs e f = record { end = rw e; text = tail_written old _ bs at f }
-
--- the copy of `bytes_at`: i bytes are copied
-pub record Copied (bs old now : List ℕ) (at i : ℕ) : Type 0 where
-  pub in_bs : i ≤ length bs
-  pub in_text : at + length bs ≤ length old
-  pub long : length now ≡ length old
-  pub text : now ≡ written old at (take i bs)
-
-pub copied_start : (bs old : List ℕ) (at : ℕ) → at + length bs ≤ length old → Copied bs old old at 0
-copied_start bs old at h = record { in_bs = zero-le; in_text = h; long = refl; text = sym (written_none old at) }
-
--- a byte more is a piece of one byte
-byte_wrote : (now : List ℕ) (at b : ℕ) → at < length now → Wrote (b ∷ []) at now (set now at b) (at + 1)
-byte_wrote now at b h = record { end = refl; text = set_split now at b h ∙ rw (add-one at, append_assoc) }
-
-module _ {bs old now : List ℕ} {at i : ℕ} (c : Copied bs old now at i) where
-  so_far : Wrote (take i bs) at old now (at + i)
-  so_far = record { end = rw (length-take-le i bs c.in_bs); text = c.text }
-
-  pub copied_next : i < length bs → Copied bs old (set now (at + i) (get_or bs i 0)) at (i + 1)
-  copied_next h =
-      let l : length (take i bs) ≡ i = length-take-le i bs c.in_bs in
-      let t : take (i + 1) bs ≡ take i bs ++ (get_or bs i 0 ∷ []) = rw (add-one i) (take-suc bs i 0 h) in
-      let w = wrote_then (omega (arith, l, c.in_text)) so_far (byte_wrote now (at + i) (get_or bs i 0) (omega (arith, c.in_text, c.long))) in
-      record { in_bs = omega arith; in_text = c.in_text; long = simp length-set c.long; text = rw t w.text }
-
-  pub copied_end : length bs ≤ i → Wrote bs at old now (at + i)
-  copied_end h = rw (take_all i bs h) at so_far

@@ -1,21 +1,21 @@
 -- A call through the probe: nothing is done where the answer has under four words, else the call's own contract and its four words.
-use mathlib.Core.List.{List, ◌∷◌}
-use mathlib.Core.Path.{◌≡◌, ap, ◌∙◌}
+use mathlib.Core.List.{List, [], ◌∷◌}
+use mathlib.Core.Path.{◌≡◌, refl, ap, ◌∙◌}
 use Prim.Native.Nat.{ℕ, ◌≤◌, ◌<◌}
 use lib.Ieee.{Float}
-use lib.ListN.{length, drop}
+use native.Mathlib.Omega.{arith}
+use lib.ListN.{length, drop, set}
 use borrow.Author.Tests.{lt-ltb, le-ltb}
 use Rattle.search.specs.Outcome.{Outcome, outcome, answer_number, answer_values}
-use Rattle.search.specs.declared.Answer.{Answer}
+use Rattle.search.specs.Answer.{Answer}
 use Rattle.join.specs.Join.{join_of}
 use Rattle.reader.specs.Answers.{reading_number, reading_values}
 use Rattle.reader.specs.Calls.{Reads}
-use Rattle.reader.specs.declared.Reading.{Reading}
-use Rattle.writer.specs.Writes.{writing_number, writing_values}
+use Rattle.reader.specs.Reading.{Reading}
+use Rattle.writer.specs.Writes.{Writing, writing_number, writing_values}
 use Rattle.writer.specs.Calls.{Writes}
-use Rattle.writer.specs.declared.Writing.{Writing}
 use Rattle.heat.specs.Answers.{cell_number, cell_values, cell_value, cell_of}
-use Rattle.heat.specs.declared.CellAnswer.{CellAnswer}
+use Rattle.heat.specs.CellAnswer.{CellAnswer}
 use Rattle.probe.specs.Probe.{four_words, at_front, after_join, probe_join, after_read, probe_read, after_write, probe_write, after_cell, probe_cell}
 
 module _ (k : ℕ) (offsets codes list work trail old : List ℕ) where
@@ -64,10 +64,14 @@ module _ (contexts : ℕ) (list : List ℕ) (entries first second : ℕ) (value 
     unfolding probe_cell
     no_word l = rw (le-ltb (length old) 4 h, lt-ltb (length value) 1 l)
 
-    pub cell_told : 1 ≤ length value → {r : CellAnswer} {v : Float} {value' : List Float} {answer : List ℕ} → r ≡ cell_of contexts list entries first second
-        → v ≡ cell_value r → value' ≡ v ∷ drop 1 value → answer ≡ at_front (four_words (cell_number r) (cell_values r)) old → after_cell value' answer ≡ probe_cell contexts list entries first second value old
+    first_set : (vs : List Float) (v : Float) → 1 ≤ length vs → set vs 0 v ≡ v ∷ drop 1 vs
+    first_set [] v l = absurd (omega arith)
+    first_set (x ∷ xs) v l = refl
+
+    pub cell_told : 1 ≤ length value → {r : CellAnswer} {v : Float} {answer : List ℕ} → r ≡ cell_of contexts list entries first second → v ≡ cell_value r
+        → answer ≡ at_front (four_words (cell_number r) (cell_values r)) old → after_cell (set value 0 v) answer ≡ probe_cell contexts list entries first second value old
     unfolding probe_cell
-    cell_told l e f g q =
-        let x = g ∙ ap (λ (v : Float). v ∷ drop 1 value) (f ∙ ap cell_value e) in
+    cell_told l {r} {v} e f q =
+        let x = first_set value v l ∙ ap (λ (v : Float). v ∷ drop 1 value) (f ∙ ap cell_value e) in
         let y = q ∙ ap (λ (r : CellAnswer). at_front (four_words (cell_number r) (cell_values r)) old) e in
         rw (le-ltb (length old) 4 h, le-ltb (length value) 1 l) (λ i. after_cell (x i) (y i))

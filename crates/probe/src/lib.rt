@@ -3,92 +3,109 @@
 
 #![tactic(auto)]
 
-ghost use Rattle.std.specs.Prelude.{[], ◌∷◌, ◌≡◌, ◌≤◌, length, drop};
-ghost use Rattle.search.specs.Outcome.{answer_number, answer_values};
+ghost use Rattle.std.specs.Prelude.{List, [], ◌∷◌, ◌≡◌, refl, ℕ, ◌≤◌, Result, Ok, Err, length};
+ghost use Rattle.refusal.specs.Numbers.{number_of};
+ghost use Rattle.refusal.specs.declared.Refusal.{Refusal};
+ghost use Rattle.search.specs.Outcome.{answer_said, answer_number, answer_values};
+ghost use Rattle.reader.specs.Reading.{reading_said};
 ghost use Rattle.reader.specs.Answers.{reading_number, reading_values};
-ghost use Rattle.writer.specs.Writes.{writing_number, writing_values};
+ghost use Rattle.writer.specs.Writes.{writing_said, writing_number, writing_values};
+ghost use Rattle.heat.specs.CellAnswer.{cell_said};
 ghost use Rattle.heat.specs.Answers.{cell_number, cell_values};
 ghost use Rattle.probe.specs.Probe.{four_words, at_front, after_join, probe_join, after_read, probe_read, after_write, probe_write};
 ghost use Rattle.probe.specs.Probe.{after_cell, probe_cell};
 
-use heat::{Cell, CellAnswer, cell_of, value_of};
-use join::{Answer, join};
-use reader::{Reading, read};
+use heat::{Cell, cell_of, value_of};
+use join::{Counted, join};
+use reader::{Sheet, read};
+use refusal::Refusal;
 use site::Context;
-use writer::{Writing, write};
+use writer::write;
 
-// Writes four words at the front.
-fn put(answer: &mut [u64], a: u64, b: u64, c: u64, d: u64)
-    requires { 4 ≤ length answer.old }
-    ensures { answer.new ≡ at_front (a ∷ b ∷ c ∷ d ∷ []) answer.old }
-{
-    answer[0] = a;
-    answer[1] = b;
-    answer[2] = c;
-    answer[3] = d;
+// What a call answers where it refuses nothing: what its results tell, as four words, and those of a refusal its number and its place.
+trait Accepted: Copy {
+    ghost told: { Result Self Refusal → List ℕ };
+
+    // The four words of what is accepted.
+    fn words(self) -> [u64; 4]
+        ensures { result ≡ told (Ok self) };
+
+    ghost refused: { (e : Refusal) → told (Err e) ≡ four_words (number_of e.rule) (e.place ∷ []) };
 }
 
-// The words of a join's answer.
-#[tactic(auto, unfolding(crate::specs::Probe::four_words, words::specs::Words::padded))]
-fn put_join(answer: &mut [u64], r: Answer)
-    requires { 4 ≤ length answer.old }
-    ensures { answer.new ≡ at_front (four_words (answer_number r) (answer_values r)) answer.old }
-{
-    match r {
-        Answer::Listed { found, events, met } => {
-            put(answer, 0, found as u64, events as u64, met as u64)
+// What a join counts.
+impl Accepted for Counted {
+    ghost told = { λ r. four_words (answer_number (answer_said r)) (answer_values (answer_said r)) };
+
+    ghost refused = { λ e. refl };
+
+    #[tactic(auto, unfolding(crate::specs::Probe::four_words, words::specs::Words::padded))]
+    fn words(self) -> [u64; 4] {
+        [0, self.found as u64, self.events as u64, self.met as u64]
+    }
+}
+
+// What is read of a sheet.
+impl Accepted for Sheet {
+    ghost told = { λ r. four_words (reading_number (reading_said r)) (reading_values (reading_said r)) };
+
+    ghost refused = { λ e. refl };
+
+    #[tactic(auto, unfolding(crate::specs::Probe::four_words, words::specs::Words::padded))]
+    fn words(self) -> [u64; 4] {
+        [
+            0,
+            u64::from(self.k),
+            u64::from(self.contexts),
+            u64::from(self.codes),
+        ]
+    }
+}
+
+// The length of a text that was written.
+impl Accepted for usize {
+    ghost told = { λ r. four_words (writing_number (writing_said r)) (writing_values (writing_said r)) };
+
+    ghost refused = { λ e. refl };
+
+    #[tactic(auto, unfolding(crate::specs::Probe::four_words, words::specs::Words::padded))]
+    fn words(self) -> [u64; 4] {
+        [0, self as u64, 0, 0]
+    }
+}
+
+// A cell of the heat map: 0 for a blank one, 1 for one with a value.
+impl Accepted for Cell {
+    ghost told = { λ r. four_words (cell_number (cell_said r)) (cell_values (cell_said r)) };
+
+    ghost refused = { λ e. refl };
+
+    #[tactic(auto, unfolding(crate::specs::Probe::four_words, words::specs::Words::padded))]
+    fn words(self) -> [u64; 4] {
+        match self {
+            Cell::Blank => [0, 0, 0, 0],
+            Cell::Value(_) => [0, 1, 0, 0],
         }
-        Answer::Refused { number, place } => put(answer, number as u64, place as u64, 0, 0),
     }
 }
 
-// The words of a reading.
+// The words of a call's answer: those of what is accepted, or the number and the place of the refusal.
 #[tactic(auto, unfolding(crate::specs::Probe::four_words, words::specs::Words::padded))]
-fn put_read(answer: &mut [u64], r: Reading)
-    requires { 4 ≤ length answer.old }
-    ensures { answer.new ≡ at_front (four_words (reading_number r) (reading_values r)) answer.old }
+fn words_of<T: Accepted>(r: Result<T, Refusal>) -> [u64; 4]
+    ensures { result ≡ T.told r }
 {
     match r {
-        Reading::Sheet { k, contexts, codes } => {
-            put(answer, 0, k as u64, contexts as u64, codes as u64)
-        }
-        Reading::Refused { number, place } => put(answer, number as u64, place as u64, 0, 0),
+        Ok(accepted) => accepted.words(),
+        Err(refusal) => [u64::from(refusal.number()), refusal.place as u64, 0, 0],
     }
 }
 
-// The words of the writer's answer.
-#[tactic(auto, unfolding(crate::specs::Probe::four_words, words::specs::Words::padded))]
-fn put_write(answer: &mut [u64], r: Writing)
+// Writes them at the front.
+fn put<T: Accepted>(answer: &mut [u64], r: Result<T, Refusal>)
     requires { 4 ≤ length answer.old }
-    ensures { answer.new ≡ at_front (four_words (writing_number r) (writing_values r)) answer.old }
+    ensures { answer.new ≡ at_front (T.told r) answer.old }
 {
-    match r {
-        Writing::Written(length) => put(answer, 0, length as u64, 0, 0),
-        Writing::Refused { number, place } => put(answer, number as u64, place as u64, 0, 0),
-    }
-}
-
-// The words of a cell.
-#[tactic(auto, unfolding(crate::specs::Probe::four_words, words::specs::Words::padded))]
-fn put_cell(answer: &mut [u64], r: CellAnswer)
-    requires { 4 ≤ length answer.old }
-    ensures { answer.new ≡ at_front (four_words (cell_number r) (cell_values r)) answer.old }
-{
-    match r {
-        CellAnswer::Cell(c) => match c {
-            Cell::Blank => put(answer, 0, 0, 0, 0),
-            Cell::Value(_) => put(answer, 0, 1, 0, 0),
-        },
-        CellAnswer::Refused { number, place } => put(answer, number as u64, place as u64, 0, 0),
-    }
-}
-
-// Writes a value at the front.
-fn put_value(value: &mut [f64], v: f64)
-    requires { 1 ≤ length value.old }
-    ensures { value.new ≡ v ∷ drop 1 value.old }
-{
-    value[0] = v;
+    answer[..4].copy_from_slice(&words_of(r));
 }
 
 // The join.
@@ -111,8 +128,7 @@ pub extern "C" fn probe_join(
     if answer.len() < 4 {
         return 0;
     }
-    let r = join(k, offsets, codes, list, work, trail);
-    put_join(answer, r);
+    put(answer, join(k, offsets, codes, list, work, trail));
     0
 }
 
@@ -132,8 +148,7 @@ pub extern "C" fn probe_read(
     if answer.len() < 4 {
         return 0;
     }
-    let r = read(sheet, offsets, codes);
-    put_read(answer, r);
+    put(answer, read(sheet, offsets, codes));
     0
 }
 
@@ -154,14 +169,13 @@ pub extern "C" fn probe_write(
     if answer.len() < 4 {
         return 0;
     }
-    let r = write(k, offsets, codes, text);
-    put_write(answer, r);
+    put(answer, write(k, offsets, codes, text));
     0
 }
 
 // One cell of the heat map. Its value stands at the front of `value`; where that has no word, nothing is done either.
 #[unsafe(no_mangle)]
-#[tactic(auto, using(crate::proofs::Probed::cell_left, crate::proofs::Probed::no_word, crate::proofs::Probed::cell_told))]
+#[tactic(auto, using(crate::proofs::Probed::cell_left, crate::proofs::Probed::no_word))]
 pub extern "C" fn probe_cell(
     contexts: u16,
     list: &[u16],
@@ -175,14 +189,11 @@ pub extern "C" fn probe_cell(
     ensures answer_after { after_cell value.new answer.new
         ≡ probe_cell contexts list.now entries first second value.old answer.old }
 {
-    if answer.len() < 4 {
-        return 0;
-    }
-    if value.len() < 1 {
+    if answer.len() < 4 || value.is_empty() {
         return 0;
     }
     let r = cell_of(contexts, list, entries, Context(first), Context(second));
-    put_value(value, value_of(r));
-    put_cell(answer, r);
+    value[0] = value_of(r);
+    put(answer, r);
     0
 }

@@ -5,10 +5,14 @@ use mathlib.Core.Path.{◌≡◌, ap}
 use Prim.Native.Nat.{ℕ}
 use native.Mathlib.Omega.{arith}
 use lib.ListN.{length}
+use Rattle.std.specs.Prelude.{Result, Ok, Err}
+use Rattle.refusal.specs.declared.Refusal.{Refusal}
+use Rattle.refusal.proofs.Numbers.{number_tells}
 use Rattle.sheet.specs.Read.{Read, value, refused, read_number, read_values}
 use Rattle.sheet.specs.Reading.{Sheet, read_sheet}
-use Rattle.reader.specs.declared.Reading.{Reading}
-use Rattle.reader.specs.declared.Reading.TheVariants as reading
+use Rattle.reader.specs.declared.Sheet as read
+use Rattle.reader.specs.Reading.{Reading, reading_said}
+use Rattle.reader.specs.Reading as reading
 use Rattle.reader.specs.Answers.{reading_number, reading_values, ReadingTells, sheet_values, reading_of}
 use Rattle.reader.specs.Calls.{Reads}
 
@@ -36,6 +40,18 @@ module _ {k c m : ℕ} where
   -- and it is told of the sheet
   pub sheet_tells : {r : Reading} → r ≡ reading.Sheet k c m → ReadingTells r 0 (k ∷ c ∷ m ∷ [])
   sheet_tells e = (ap reading_number e, ap reading_values e)
+
+-- an answer, by what it says: each rule has a number of its own
+pub said_tells : (r s : Result read.Sheet Refusal) → reading_said r ≡ reading_said s → r ≡ s
+said_tells (Ok a) (Ok b) e =
+    let x : a.k ≡ b.k = cc in
+    let y : a.contexts ≡ b.contexts = cc in
+    let z : a.codes ≡ b.codes = cc in λ i. Ok (record { k = x i; contexts = y i; codes = z i })
+said_tells (Ok a) (Err q) e = let z : ◌≡◌ {A = ℕ} 0 1 = cc in absurd (omega arith)
+said_tells (Err p) (Ok b) e = let z : ◌≡◌ {A = ℕ} 0 1 = cc in absurd (omega arith)
+said_tells (Err p) (Err q) e =
+    let x : p.rule ≡ q.rule = number_tells (cc) in
+    let y : p.place ≡ q.place = cc in λ i. Err (record { rule = x i; place = y i })
 
 -- a reading, by its own number and values
 pub tells_reading : (x : Read Sheet) (r : Reading) → ReadingTells r (read_number x) (read_values sheet_values x) → r ≡ reading_of x

@@ -1,49 +1,45 @@
--- The invariant of the cut: no byte b from a up to e, so that the piece at a ends where the one at e does.
--- Where the scan stops, the part from a up to e is the piece. Rests on the sheet's laws of pieces.
-use mathlib.Core.Path.{◌≡◌, refl}
-use mathlib.Core.List.{List}
-use Prim.Native.Nat.{ℕ, ◌+◌, ◌-◌, ◌≤◌, ◌<◌}
-use native.Mathlib.Nat.{le_refl}
-use native.Mathlib.Numerals.{add-one}
+-- The cut of a text at a byte b: what stands before the next b. Rests on the sheet's laws of pieces.
+use mathlib.Core.Bool.{not}
+use mathlib.Core.Path.{◌≡◌, refl, sym, ap, ◌∙◌}
+use mathlib.Core.List.{List, [], ◌∷◌}
+use Prim.Native.Nat.{ℕ, ◌+◌, ◌-◌, ◌≤◌}
 use native.Mathlib.Omega.{arith}
+use lib.Dec.{eqb}
 use borrow.Author.Tests.{eq-eqb, ne_eqb}
-use lib.ListN.{length, get_or, take, drop, drop_of_length-le, length-take, length-drop}
-use lib.Seq.{drop-cons}
+use lib.ListN.{length, take, drop, length-take, length-drop}
+use lib.Seq.{length-take-le}
+use Rattle.std.specs.List.{prefix_len, take_while}
+use Rattle.std.proofs.lemmas.List.Folds.{length-prefix_len}
+use Rattle.words.proofs.Split.{by_eq}
+use Rattle.words.proofs.Tail.{tail_is}
 use Rattle.sheet.specs.Pieces.{front_to}
-use Rattle.sheet.proofs.Pieces.{take_up_to}
+use Rattle.sheet.proofs.Pieces.{up_to_within, take_up_to}
 
--- no byte b from a up to e
-pub record Sought (s : List ℕ) (b a e : ℕ) : Type 0 where
-  pub from : a ≤ e
-  pub within : e ≤ length s
-  pub same : a + length (front_to b (drop a s)) ≡ e + length (front_to b (drop e s))
+-- the bytes before the next b, counted
+front_is : (b : ℕ) (s : List ℕ) → prefix_len (λ x. not (eqb x b)) s ≡ length (front_to b s)
+unfolding front_to
+front_is b [] = refl
+front_is b (x ∷ s) = let h = front_is b s in by_eq x b (λ e. rw (eq-eqb x b e)) (λ d. rw (ne_eqb x b d) (omega arith))
 
--- none has been passed
-pub sought_start : {s : List ℕ} {b a : ℕ} → a ≤ length s → Sought s b a a
-sought_start {a = a} h = record { from = le_refl a; within = h; same = refl }
+pub front_counted : (b : ℕ) (s : List ℕ) {n : ℕ} → n ≡ length (take_while (λ x. not (eqb x b)) s) → n ≡ length (front_to b s)
+front_counted b s e = e ∙ length-prefix_len (λ x. not (eqb x b)) s ∙ front_is b s
 
-module _ {s : List ℕ} {b a e : ℕ} (w : Sought s b a e) where
-  -- a byte that is no b
-  pub sought_next : e < length s → (get_or s e 0 ≡ b → ⊥) → Sought s b a (e + 1)
-  unfolding front_to
-  sought_next h n =
-      let f = rw (drop-cons s e 0 h, ne_eqb (get_or s e 0) b n) at w.same in
-      record { from = omega (arith, w.from); within = omega arith; same = rw (add-one e) (omega (arith, f)) }
+-- so many bytes of the rest of a text from `at` on
+module _ (s : List ℕ) (at b : ℕ) where
+  abbrev rest : List ℕ
+  rest = take (length s - at) (drop at s)
 
-  -- the part from a up to e is within the text
-  pub cut_within : a + length (take (e - a) (drop a s)) ≤ length s
-  cut_within = simp (length-take, length-drop) (omega (arith, w.from, w.within))
+  -- are there
+  pub piece_taken : {n : ℕ} → n ≡ length (front_to b rest) → n ≡ length (take n rest)
+  piece_taken {n} e = sym (length-take-le n rest (rw e (up_to_within b rest)))
 
-  -- it is the piece, if that ends at e
-  cut_is : e ≡ a + length (front_to b (drop a s)) → take (e - a) (drop a s) ≡ front_to b (drop a s)
-  cut_is q = let n : e - a ≡ length (front_to b (drop a s)) = omega arith in rw n (take_up_to b (drop a s))
+  -- are the piece
+  pub piece_cut : {n : ℕ} → n ≡ length (front_to b rest) → take n rest ≡ front_to b (drop at s)
+  piece_cut e = rw e (take_up_to b rest ∙ ap (front_to b) (tail_is s at))
 
-  -- the piece ends at a byte b
-  pub cut_here : e < length s → get_or s e 0 ≡ b → take (e - a) (drop a s) ≡ front_to b (drop a s)
-  unfolding front_to
-  cut_here h q = let f = rw (drop-cons s e 0 h, eq-eqb (get_or s e 0) b q) at w.same in cut_is (omega (arith, f))
+  -- and stand within the text
+  pub piece_within : at ≤ length s → (n : ℕ) → at + length (take n rest) ≤ length s
+  piece_within h n = simp (length-take, length-drop) (omega arith)
 
-  -- or at the end of the text
-  pub cut_end : length s ≤ e → take (e - a) (drop a s) ≡ front_to b (drop a s)
-  unfolding front_to
-  cut_end h = let f = rw (drop_of_length-le s h) at w.same in cut_is (omega (arith, f))
+-- the ways of `piece_from`
+pub ruleset cutting = (piece_taken, piece_cut, piece_within)

@@ -1,50 +1,32 @@
--- The digits at a front, and the number that they say: the invariants of the two scans.
--- Each says of the whole what is still to be said of the rest from i on.
-use mathlib.Core.Path.{◌≡◌, refl, sym, ◌∙◌}
+-- The digits at a front, and the number that they say: its scan says of the whole what is still to be said of the rest from i on.
+use mathlib.Core.Bool.{Bool, true, false, cond}
+use mathlib.Core.Path.{◌≡◌, refl, ◌∙◌}
 use mathlib.Core.List.{List, [], ◌∷◌}
-use Prim.Native.Nat.{ℕ, suc, ◌+◌, ◌-◌, ◌*◌, ◌≤◌, ◌<◌, min, zero-le}
-use native.Mathlib.Nat.{zero-add, le_refl}
+use Prim.Native.Nat.{ℕ, suc, ◌+◌, ◌-◌, ◌*◌, ◌≤◌, ◌<◌, min}
+use native.Mathlib.Nat.{le_refl}
 use native.Mathlib.Numerals.{add-one}
 use native.Mathlib.Omega.{arith}
-use borrow.Author.Tests.{ne_eqb, lt-leb, le-leb}
+use borrow.Author.Tests.{ne_eqb}
 use lib.ListN.{length, get_or, drop, drop_of_length-le}
 use lib.Seq.{drop-cons, take_all}
-use Rattle.sheet.specs.Number.{value_from, value_of, digit_run, most_digits, digits_in}
+use Rattle.std.specs.Char.{is_ascii_digit}
+use Rattle.std.specs.List.{prefix_len, take_while}
+use Rattle.std.proofs.lemmas.List.Folds.{length-prefix_len}
+use Rattle.sheet.specs.Number.{value_from, value_of, is_digit, digit_run, most_digits, digits_in}
 use Rattle.sheet.proofs.Numbers.{cap}
 
--- digits up to i
-pub record Run (s : List ℕ) (i : ℕ) : Type 0 where
-  pub within : i ≤ length s
-  pub same : length (digit_run s) ≡ i + length (digit_run (drop i s))
+-- the digits at the front, counted
+pub run_counted : (w : List ℕ) {n : ℕ} → n ≡ length (take_while is_ascii_digit w) → n ≡ length (digit_run w)
+unfolding digit_run
+run_counted w e = e ∙ length-prefix_len is_ascii_digit w ∙ run_is w
+  where
+    one : (t : Bool) (b : ℕ) {n : ℕ} (bs : List ℕ) → n ≡ length bs → cond t (1 + n) 0 ≡ length (cond t (b ∷ bs) [])
+    one true b bs e = omega arith
+    one false b bs e = refl
 
--- none has been passed
-pub run_start : {s : List ℕ} → Run s 0
-run_start {s} = record { within = zero-le; same = sym (zero-add _) }
-
-module _ {s : List ℕ} {i : ℕ} (w : Run s i) where
-  -- one digit more
-  pub run_next : i < length s → 48 ≤ get_or s i 0 → get_or s i 0 ≤ 57 → Run s (i + 1)
-  unfolding digit_run
-  run_next h l m =
-      let f = rw (drop-cons s i 0 h, le-leb 48 (get_or s i 0) l, le-leb (get_or s i 0) 57 m) at w.same in
-      record { within = omega arith; same = rw (add-one i) (omega (arith, f)) }
-
-  -- a byte below the digits ends them
-  pub run_below : i < length s → get_or s i 0 < 48 → i ≡ length (digit_run s)
-  unfolding digit_run
-  run_below h l = let f = rw (drop-cons s i 0 h, lt-leb 48 (get_or s i 0) l) at w.same in omega (arith, f)
-
-  -- and so does one above them
-  pub run_above : i < length s → 57 < get_or s i 0 → i ≡ length (digit_run s)
-  unfolding digit_run
-  run_above h l =
-      let low : 48 ≤ get_or s i 0 = omega arith in
-      let f = rw (drop-cons s i 0 h, le-leb 48 (get_or s i 0) low, lt-leb (get_or s i 0) 57 l) at w.same in omega (arith, f)
-
-  -- or the end of the text
-  pub run_end : length s ≤ i → i ≡ length (digit_run s)
-  unfolding digit_run
-  run_end h = let f = rw (drop_of_length-le s h) at w.same in omega (arith, f)
+    run_is : (w : List ℕ) → prefix_len is_ascii_digit w ≡ length (digit_run w)
+    run_is [] = refl
+    run_is (b ∷ bs) = one (is_digit b) b (digit_run bs) (run_is bs)
 
 -- how many can stand in a number
 pub digits_none : (w : List ℕ) → length w ≡ 0 → 0 ≡ length (digits_in w)
@@ -69,10 +51,6 @@ pub record Valued (bs : List ℕ) (v i : ℕ) : Type 0 where
   pub few : v ≤ 65536
   pub same : min 65536 (value_of bs) ≡ min 65536 (value_from v (drop i bs))
 
--- no digit says 0
-pub valued_start : {bs : List ℕ} → Valued bs 0 0
-valued_start = record { within = zero-le; few = zero-le; same = refl }
-
 module _ {bs : List ℕ} {v i : ℕ} (w : Valued bs v i) where
   -- all digits are counted
   pub valued_end : length bs ≤ i → v ≡ min 65536 (value_of bs)
@@ -88,6 +66,3 @@ module _ {bs : List ℕ} {v i : ℕ} (w : Valued bs v i) where
         few = omega arith;
         same = w.same ∙ rw (drop-cons bs i 0, cap (v * 10 + (get_or bs i 0 - 48)) (drop (suc i) bs), ← e, add-one);
       }
-
--- the ways of `digit_run`
-pub ruleset running = (run_next, run_below, run_above, run_end)

@@ -12,9 +12,9 @@ use Rattle.sheet.specs.Pieces.{split}
 use Rattle.sheet.specs.Reading.{Line, line}
 use Rattle.sheet.proofs.Pieces.{up_to_within}
 use Rattle.sheet.proofs.Lines.{no_value, line_refused, line_last, line_more}
-use Rattle.reader.specs.declared.Part.{Part}
-use Rattle.reader.specs.declared.Part.TheVariants as part
-use Rattle.reader.specs.Parts.{part_by, line_by, ended_by, line_at}
+use Rattle.reader.specs.Part.{Part}
+use Rattle.reader.specs.Part as part
+use Rattle.reader.specs.Parts.{part_by, line_by, ended_by, part_ended, line_at}
 use Rattle.reader.proofs.Enums.{part_value, part_refused}
 
 -- the ways of `line_end`
@@ -64,6 +64,14 @@ module _ {A : Type 0} (read : ℕ → List ℕ → Read A) (s : List ℕ) (at : 
         → z ≡ line_by f (line read at (split 10 (drop at s)))
     line_ended e g =
         let y = part_value f (read at (line_at at s)) (is_read ∙ e) in g ∙ ap₂ (ended_by (length s)) y.2 y.3 ∙ ended_by_lem f y.1
+
+    -- the end of a line, whatever its text has for a reading
+    over : (x : Part) → r ≡ x → part_ended (length s) x ≡ line_by f (line read at (split 10 (drop at s)))
+    over (part.Read v next) e = line_ended e refl
+    over (part.Refused n p) e = sym e ∙ line_passed e
+
+    pub line_over : {z : Part} → z ≡ part_ended (length s) r → z ≡ line_by f (line read at (split 10 (drop at s)))
+    line_over g = g ∙ over r refl
 
   -- a value is that of one line only
   same_line : {l m : Line A} → value l ≡ value m → Placed read s at l → Placed read s at m

@@ -1,4 +1,4 @@
--- A reading back from the reader's enum, and a reading that goes on behind what is done.
+-- A reading back from what a function's answer says, and a reading that goes on behind what is done.
 -- Rests on the definitions of Parts alone.
 use mathlib.Core.Path.{◌≡◌, refl, sym, ap}
 use mathlib.Core.List.{List, [], ◌∷◌, ◌++◌, append_assoc}
@@ -6,7 +6,7 @@ use Prim.Native.Nat.{ℕ}
 use native.Mathlib.Omega.{arith}
 use Rattle.sheet.specs.Read.{Read, value, refused, ◌then◌}
 use Rattle.sheet.specs.Reading.{Line}
-use Rattle.reader.specs.declared.Part.TheVariants as part
+use Rattle.reader.specs.Part as part
 use Rattle.reader.specs.Parts.{part_by, line_by}
 
 module _ {A : Type 0} (f : A → ℕ) where

@@ -9,7 +9,7 @@ use lib.Seq.{length-take-le}
 use lib.ListN.{length, take}
 use Rattle.sheet.specs.Number.{value_of, AllDigits, most_digits, digits_in, number_of}
 use Rattle.sheet.proofs.Numbers.{run_digits, take_in, in_within}
-use Rattle.reader.specs.declared.Part.TheVariants as part
+use Rattle.reader.specs.Part as part
 use Rattle.reader.specs.Parts.{part_by, itself}
 
 module _ (w : List ℕ) (room at : ℕ) {n : ℕ} (counted : n ≡ length (digits_in w)) where

@@ -1,56 +1,42 @@
 -- The key of a line: the scan that matches it, and what it tells of the line's reading.
 -- Where the key breaks, 9 stands at that byte; behind a whole key the rest of the line is read.
-use mathlib.Core.Path.{◌≡◌, sym}
+use mathlib.Core.Bool.{cond}
+use mathlib.Core.Path.{◌≡◌, refl, ap, ◌∙◌}
 use mathlib.Core.List.{List, [], ◌∷◌}
-use Prim.Native.Nat.{ℕ, suc, ◌+◌, ◌-◌, ◌≤◌, ◌<◌, zero-le}
-use native.Mathlib.Nat.{zero-add, add-zero, le_of_suc-le-suc, not-suc-le-zero}
-use native.Mathlib.Numerals.{add-one}
+use Prim.Native.Nat.{ℕ, suc, ◌+◌, ◌≤◌, ◌<◌, zero-le}
+use native.Mathlib.Nat.{add-zero, le_of_suc-le-suc, not-suc-le-zero}
 use native.Mathlib.Omega.{arith}
 use borrow.Author.Tests.{eq-eqb, ne_eqb}
-use lib.ListN.{length, get_or, take, drop, drop_of_length-le, length-take, length-drop}
-use lib.Seq.{drop-cons}
+use lib.Dec.{eqb}
+use lib.ListN.{length, drop, length-drop}
+use Rattle.std.specs.List.{zip, prefix_len, take_while}
+use Rattle.std.proofs.lemmas.List.Folds.{length-prefix_len}
 use Rattle.words.proofs.Split.{by_eq}
-use Rattle.words.proofs.Tail.{tail_is}
 use Rattle.sheet.specs.Read.{Read, refused}
 use Rattle.sheet.specs.Number.{number_of}
 use Rattle.sheet.specs.Reading.{behind}
-use Rattle.reader.specs.declared.Part.{Part}
-use Rattle.reader.specs.declared.Part.TheVariants as part
+use Rattle.reader.specs.Part.{Part}
+use Rattle.reader.specs.Part as part
 use Rattle.reader.specs.Parts.{part_by, itself, matched_by}
 
--- the key's bytes up to i
-pub record Matched (key l : List ℕ) (i : ℕ) : Type 0 where
-  pub in_key : i ≤ length key
-  pub in_line : i ≤ length l
-  pub same : matched_by key l ≡ i + matched_by (drop i key) (drop i l)
+-- the bytes of the key that stand at the front, counted
+pub matched_counted : (key l : List ℕ) {n : ℕ} → n ≡ length (take_while (λ p. eqb p.1 p.0) (zip key l)) → (n ≡ matched_by key l) × (n ≤ length l)
+unfolding matched_by
+matched_counted key l e =
+    let m = e ∙ length-prefix_len (λ p. eqb p.1 p.0) (zip key l) ∙ matched_is key l in (m, rw m (matched_in_line key l))
+  where
+    matched_is : (key l : List ℕ) → prefix_len (λ p. eqb p.1 p.0) (zip key l) ≡ matched_by key l
+    matched_is [] l = refl
+    matched_is (x ∷ key) [] = refl
+    matched_is (x ∷ key) (b ∷ l) =
+        let e = matched_is key l in
+        let s : 1 + prefix_len (λ (p : ℕ × ℕ). eqb p.1 p.0) (zip key l) ≡ suc (matched_by key l) = omega arith in ap (λ (n : ℕ). cond (eqb b x) n 0) s
 
--- no byte has been compared
-pub matched_start : {key l : List ℕ} → Matched key l 0
-matched_start = record { in_key = zero-le; in_line = zero-le; same = sym (zero-add _) }
-
-module _ {key l : List ℕ} {i : ℕ} (w : Matched key l i) where
-  -- one more byte is the key's
-  pub matched_next : i < length key → i < length l → get_or l i 0 ≡ get_or key i 0 → Matched key l (i + 1)
-  unfolding matched_by
-  matched_next h k e =
-      let f = rw (drop-cons key i 0 h, drop-cons l i 0 k, eq-eqb (get_or l i 0) (get_or key i 0) e) at w.same in
-      record { in_key = omega arith; in_line = omega arith; same = rw (add-one i) (omega (arith, f)) }
-
-  -- a byte that is not
-  pub matched_other : i < length key → i < length l → (get_or l i 0 ≡ get_or key i 0 → ⊥) → i ≡ matched_by key l
-  unfolding matched_by
-  matched_other h k n =
-      let f = rw (drop-cons key i 0 h, drop-cons l i 0 k, ne_eqb (get_or l i 0) (get_or key i 0) n) at w.same in omega (arith, f)
-
-  -- the line ends before the key
-  pub matched_short : i < length key → length l ≤ i → i ≡ matched_by key l
-  unfolding matched_by
-  matched_short h k = let f = rw (drop-cons key i 0 h, drop_of_length-le l k) at w.same in omega (arith, f)
-
-  -- the whole key is there
-  pub matched_end : length key ≤ i → i ≡ matched_by key l
-  unfolding matched_by
-  matched_end h = let f = rw (drop_of_length-le key h) at w.same in omega (arith, f)
+    matched_in_line : (key l : List ℕ) → matched_by key l ≤ length l
+    matched_in_line [] l = zero-le
+    matched_in_line (x ∷ key) [] = zero-le
+    matched_in_line (x ∷ key) (b ∷ l) =
+        by_eq b x (λ e. rw (eq-eqb b x e) (omega (arith, matched_in_line key l))) (λ n. rw (ne_eqb b x n) zero-le)
 
 -- no more bytes than the key has
 matched_in_key : (key l : List ℕ) → matched_by key l ≤ length key
@@ -94,10 +80,10 @@ module _ (key l : List ℕ) (at : ℕ) {m : ℕ} (q : m ≡ matched_by key l) wh
     line_broken h = rw q (key_broken read key l at (rw q at h))
 
     -- the rest of the line is read behind the key
-    pub line_behind : length key ≤ m → behind key read at l ≡ read (at + m) (take (length l - m) (drop m l))
+    pub line_behind : length key ≤ m → behind key read at l ≡ read (at + m) (drop m l)
     line_behind h =
         let e : m ≡ length key = omega (arith, q, matched_in_key key l) in
-        rw (tail_is l m, e) (key_behind read key l at (rw q at h))
+        rw e (key_behind read key l at (rw q at h))
 
   -- the same of a line with a number
   pub number_broken : (room : ℕ) → m < length key → part.Refused 9 (at + m) ≡ part_by itself (at + length l) (behind key (number_of room) at l)
@@ -105,14 +91,11 @@ module _ (key l : List ℕ) (at : ℕ) {m : ℕ} (q : m ≡ matched_by key l) wh
   number_broken room h = rw (line_broken (number_of room) h)
 
   -- the part behind the key ends where the line does
-  pub tail_end : m ≤ length l → at + m + length (take (length l - m) (drop m l)) ≡ at + length l
-  tail_end h = simp (length-take, length-drop) (omega arith)
+  pub tail_end : m ≤ length l → at + m + length (drop m l) ≡ at + length l
+  tail_end h = omega (arith, length-drop m l)
 
   -- and the number behind its key
-  pub number_follows : (room : ℕ) → length key ≤ m → m ≤ length l → {r : Part}
-      → r ≡ part_by itself (at + m + length (take (length l - m) (drop m l))) (number_of room (at + m) (take (length l - m) (drop m l)))
+  pub number_follows : (room : ℕ) → length key ≤ m → m ≤ length l → {place : ℕ} {rest : List ℕ} → (place ≡ at + m) × (rest ≡ drop m l)
+      → {r : Part} → r ≡ part_by itself (place + length rest) (number_of room place rest)
       → r ≡ part_by itself (at + length l) (behind key (number_of room) at l)
-  number_follows room h i e = rw (line_behind (number_of room) h, ← tail_end i) e
-
--- the ways of `matched`
-pub ruleset matching = (matched_next, matched_other, matched_short, matched_end)
+  number_follows room h i p e = rw (line_behind (number_of room) h, ← tail_end i, ← p.0, ← p.1) e

@@ -9,12 +9,12 @@ use lib.ListN.{length, take, drop, set, length-append, length-set, length-drop}
 use lib.Seq.{take-suc-set}
 use Rattle.sheet.specs.Read.{Read, value, refused}
 use Rattle.sheet.specs.Pieces.{split}
-use Rattle.sheet.specs.Reading.{Line, behind, line, lines_of}
+use Rattle.sheet.specs.Reading.{Line, lines_of}
 use Rattle.site.specs.Tables.{offsets_from, offsets_of, all_codes}
 use Rattle.sheet.proofs.Lines.{no_value, nothing_none, nothing_more}
 use Rattle.sheet.proofs.Tables.{all_snoc, offsets_snoc}
-use Rattle.reader.specs.declared.Part.{Part}
-use Rattle.reader.specs.declared.Part.TheVariants as part
+use Rattle.reader.specs.Part.{Part}
+use Rattle.reader.specs.Part as part
 use Rattle.reader.specs.Parts.{part_by, line_by, codes_after, line_at, context_in, context_line, lines_from}
 use Rattle.reader.specs.Fronts.{Stored, Held}
 use Rattle.reader.proofs.Enums.{line_value, line_refused, after, after_cons, after_none}

@@ -12,10 +12,10 @@ use Rattle.sheet.specs.Reading.{Sheet, Line, behind, read_sheet}
 use Rattle.site.specs.Tables.{offsets_of, all_codes}
 use Rattle.sheet.proofs.Lines.{lines_count, behind_small}
 use Rattle.sheet.proofs.Tables.{offsets_length}
-use Rattle.reader.specs.declared.Part.{Part}
-use Rattle.reader.specs.declared.Part.TheVariants as part
-use Rattle.reader.specs.declared.Reading.{Reading}
-use Rattle.reader.specs.declared.Reading.TheVariants as reading
+use Rattle.reader.specs.Part.{Part}
+use Rattle.reader.specs.Part as part
+use Rattle.reader.specs.Reading.{Reading}
+use Rattle.reader.specs.Reading as reading
 use Rattle.reader.specs.Answers.{reading_of, offsets_by, codes_by}
 use Rattle.reader.specs.Parts.{part_by, line_by, itself, codes_in, number_line, lines_from, read_rest, whole_by}
 use Rattle.reader.specs.Fronts.{Held, Taken}
@@ -63,16 +63,17 @@ module _ (lo lc : ℕ) (s : List ℕ) {r : Part} (a : r ≡ line_by itself (numb
     k_within = rw k_line.3 k_placed.within
 
     -- and who reads the rest from there, reads the sheet
-    pub k_read : {z : Reading} {offsets codes : List ℕ} → Taken (read_rest lo lc k next s) offsets codes z → Taken (read_sheet lo lc s) offsets codes z
+    pub k_read : {z : Reading} {offsets codes : List ℕ} → Taken (read_rest lo lc k next s) offsets codes z
+        → Taken (read_sheet lo lc s) offsets codes z
     unfolding read_sheet read_rest
     k_read T = rw (k_line.1, k_placed.rest, ← k_line.2, ← k_line.3) T
 
 -- r is the reading of the `contexts=` line, which begins at the place `at`
-module _ (lo lc k : ℕ) (s : List ℕ) (at : ℕ) {room : ℕ} (q : room ≡ min 257 lo)
+module _ (lo lc k : ℕ) (s : List ℕ) (at : ℕ) {room : ℕ} (q : room ≡ min lo 257)
     {r : Part} (a : r ≡ line_by itself (number_line contexts_key room at s)) where
   -- the reading, by the offset words that were lent
   is_read : line_by itself (number_line contexts_key (min 257 lo) at s) ≡ r
-  is_read = sym (a ∙ rw q)
+  is_read = let m : room ≡ min 257 lo = omega arith in sym (a ∙ rw m)
 
   -- a refusal is that of the rest
   pub contexts_refused : {n p : ℕ} → r ≡ part.Refused n p → {z : Reading} → z ≡ whole_by k 0 r → {offsets codes : List ℕ}

@@ -9,7 +9,7 @@ use Rattle.words.specs.Words.{padded}
 use Rattle.sheet.specs.Read.{Read, value, refused}
 use Rattle.sheet.specs.Reading.{Sheet}
 use Rattle.sheet.proofs.Tables.{offsets_length, front_fits}
-use Rattle.reader.specs.declared.Reading.{Reading}
+use Rattle.reader.specs.Reading.{Reading}
 use Rattle.reader.specs.Answers.{reading_at, reading_of, offsets_by, codes_by}
 use Rattle.reader.specs.Fronts.{Taken, offsets_used, codes_used}
 use Rattle.reader.specs.Calls.{Reads}

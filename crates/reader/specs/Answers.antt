@@ -3,8 +3,8 @@ use Rattle.std.specs.Prelude.{List, [], ◌∷◌, ◌≡◌, ℕ, length}
 use Rattle.sheet.specs.Read.{Read, value, refused}
 use Rattle.sheet.specs.Reading.{Sheet, read_sheet}
 use Rattle.site.specs.Tables.{offsets_of, all_codes}
-use Rattle.reader.specs.declared.Reading.{Reading}
-use Rattle.reader.specs.declared.Reading.TheVariants as reading
+use Rattle.reader.specs.Reading.{Reading}
+use Rattle.reader.specs.Reading as reading
 
 -- the number of an answer: that of its refusal, and 0 where a sheet was read
 abbrev pub reading_number : Reading → ℕ

@@ -2,7 +2,7 @@
 use Rattle.std.specs.Prelude.{◌≡◌, List, ℕ, length}
 use Rattle.sheet.specs.Read.{read_number, read_values}
 use Rattle.words.specs.Words.{padded}
-use Rattle.reader.specs.declared.Reading.{Reading}
+use Rattle.reader.specs.Reading.{Reading}
 use Rattle.reader.specs.Answers.{ReadingTells, sheet_values, reading_at, offsets_by, codes_by}
 
 -- `read` of a sheet into lent tables: what the answer tells, and both tables afterwards, with zeros behind the data

@@ -3,9 +3,9 @@ use Rattle.std.specs.Prelude.{◌≡◌, List, ◌++◌, ℕ, ◌+◌, ◌≤◌
 use Rattle.sheet.specs.Read.{Read, value}
 use Rattle.sheet.specs.Reading.{Sheet}
 use Rattle.site.specs.Tables.{offsets_of, all_codes}
-use Rattle.reader.specs.declared.Part.{Part}
-use Rattle.reader.specs.declared.Reading.{Reading}
-use Rattle.reader.specs.declared.Reading.TheVariants as reading
+use Rattle.reader.specs.Part.{Part}
+use Rattle.reader.specs.Reading.{Reading}
+use Rattle.reader.specs.Reading as reading
 use Rattle.reader.specs.Answers.{reading_of, offsets_by, codes_by}
 use Rattle.reader.specs.Parts.{part_by, codes_in}
 

@@ -1,4 +1,4 @@
--- The readings of numbers and lines as the reader's own enum: a value with the place behind it, or a refusal.
+-- The readings of numbers and lines as the reader's functions say them: a value with the place behind it, or a refusal.
 use Rattle.std.specs.Prelude.{cond, List, [], ◌∷◌, ℕ, suc, ◌+◌, min, eqb, ltb, length, drop}
 use Rattle.std.specs.Borrow.{MutBor}
 use denote.Triple.Both.{Both}
@@ -8,10 +8,10 @@ use Rattle.sheet.specs.Number.{number_of}
 use Rattle.sheet.specs.Pieces.{front_to, split}
 use Rattle.sheet.specs.Text.{contexts_key, c_key}
 use Rattle.sheet.specs.Reading.{Line, Sheet, behind, room_after, codes_read, context_of, line, lines_of}
-use Rattle.reader.specs.declared.Part.{Part}
-use Rattle.reader.specs.declared.Part.TheVariants as part
-use Rattle.reader.specs.declared.Reading.{Reading}
-use Rattle.reader.specs.declared.Reading.TheVariants as reading
+use Rattle.reader.specs.Part.{Part}
+use Rattle.reader.specs.Part as part
+use Rattle.reader.specs.Reading.{Reading}
+use Rattle.reader.specs.Reading as reading
 
 -- in a contract: how many words of a table were lent, as an `ensures` names it
 abbrev pub words_lent : {X : Type 0} → Both (MutBor (List ℕ)) X → ℕ
@@ -42,6 +42,11 @@ codes_in site = length (all_codes site)
 -- over the byte 10 at `next`, behind a line that was read as v: 9 there at the sheet's end, if none stands there
 unfoldable pub ended_by : ℕ → ℕ → ℕ → Part
 ended_by end v next = cond (ltb next end) (part.Read v (next + 1)) (part.Refused 9 next)
+
+-- the end of a line whose text has a reading
+abbrev pub part_ended : ℕ → Part → Part
+part_ended end (part.Read v next) = ended_by end v next
+part_ended end (part.Refused n p) = part.Refused n p
 
 -- how many bytes of the key stand at the front
 unfoldable pub matched_by : List ℕ → List ℕ → ℕ

@@ -1,100 +1,97 @@
 // The `c=` lines: each code is stored as it is read, and each line's end is an offset.
 // What was stored before a refusal is left to the caller.
-ghost use Rattle.std.specs.Prelude.{◌≡◌, ◌+◌, ◌≤◌, ◌<◌, ◌^◌, min, length};
+ghost use Rattle.std.specs.Prelude.{◌≡◌, ◌+◌, ◌≤◌, ◌<◌, min, length};
 ghost use Rattle.sheet.specs.Reading.{room_after};
+ghost use Rattle.reader.specs.Part.{part_said};
 ghost use Rattle.reader.specs.Parts.{words_lent, part_by, line_by, itself, codes_after, line_at, word_end};
 ghost use Rattle.reader.specs.Parts.{code_from, words_of, context_in, context_line, lines_from};
+ghost use Rattle.reader.specs.Piece.{piece_by, piece_read};
 ghost use Rattle.reader.specs.Fronts.{Stored, Held};
 
 use super::Part;
 use super::cut::{line_from, piece_from};
 use super::line::{line_end, matched};
 use super::number::number_in;
+use super::piece::Piece;
+use refusal::{Refusal, Rule};
 
 // Room for any number while there is room for a code, and then for none.
 fn room_after(lent: usize, used: usize) -> usize
     ensures { result ≡ room_after (min 4096 lent) used }
 {
-    if used < words::smaller(4096, lent) {
-        65536
-    } else {
-        0
-    }
+    if used < lent.min(4096) { 65536 } else { 0 }
 }
 
-// Reads the code at the index `from` of l, which stands at the place `at` of the sheet, with so many code words lent and used.
-fn code_from(l: &[u8], at: usize, from: usize, lent: usize, used: usize) -> Part
-    requires l_bound { at + length l.now < 2 ^ 64 }
-    requires from_in_bounds { from ≤ length l.now }
-    ensures { result ≡ part_by itself (word_end at from l.now) (code_from lent used at from l.now) }
+// Reads the code at the index `from` of l, with so many code words lent and used.
+fn code_from(l: Piece, from: usize, lent: usize, used: usize) -> Result<Part, Refusal>
+    requires { from ≤ length l.bytes.now }
+    ensures { part_said result ≡ part_by itself (word_end l.entry.at from l.entry.bytes.now)
+        (code_from lent used l.entry.at from l.entry.bytes.now) }
 {
-    let w = piece_from(l, from, 32);
-    number_in(w, at + from, room_after(lent, used))
+    let w = Piece {
+        bytes: piece_from(l.bytes, from, b' '),
+        at: l.at + from,
+    };
+    number_in(w, room_after(lent, used))
 }
 
 // Reads the codes that fill l, and stores them behind the first `used` codes.
-fn codes_in(l: &[u8], at: usize, codes: &mut [u16], used: usize) -> Part
-    requires l_bound { at + length l.now < 2 ^ 64 }
-    requires used_bound { used ≤ min 4096 (length codes.old) }
-    ensures value { result ≡ part_by (codes_after used) (at + length l.now) (words_of (words_lent codes) used at l.now) }
-    ensures stored { Stored (words_of (words_lent codes) used at l.now) used codes.old codes.new }
+fn codes_in(l: Piece, codes: &mut [u16], used: u16) -> Result<Part, Refusal>
+    requires { used ≤ min 4096 (length codes.old) }
+    ensures value { part_said result ≡ piece_by (codes_after used) (words_of (words_lent codes) used) l.entry }
+    ensures stored { Stored (piece_read (words_of (words_lent codes) used) l.entry) used codes.old codes.new }
 {
-    let mut from: usize = 0;
-    let mut n = used;
+    let mut from = 0;
+    let mut n = usize::from(used);
     loop {
-        let r = code_from(l, at, from, codes.len(), n);
-        let Part::Read { value, next } = r else {
+        let r = code_from(l, from, codes.len(), n);
+        let Ok(Part { value, next }) = r else {
             return r;
         };
         codes[n] = value;
         n += 1;
-        if next == at + l.len() {
-            return Part::Read {
+        if next == l.end() {
+            return Ok(Part {
                 value: n as u16,
                 next,
-            };
+            });
         }
-        from = next - at + 1;
+        from = next - l.at + 1;
     }
 }
 
 // Reads a `c=` line: nothing behind the key is an empty context.
-fn context_in(l: &[u8], at: usize, codes: &mut [u16], used: usize) -> Part
-    requires l_bound { at + length l.now < 2 ^ 64 }
-    requires used_bound { used ≤ min 4096 (length codes.old) }
-    ensures value { result ≡ part_by (codes_after used) (at + length l.now) (context_in (words_lent codes) used at l.now) }
-    ensures stored { Stored (context_in (words_lent codes) used at l.now) used codes.old codes.new }
+fn context_in(l: Piece, codes: &mut [u16], used: u16) -> Result<Part, Refusal>
+    requires { used ≤ min 4096 (length codes.old) }
+    ensures value { part_said result ≡ piece_by (codes_after used) (context_in (words_lent codes) used) l.entry }
+    ensures stored { Stored (piece_read (context_in (words_lent codes) used) l.entry) used codes.old codes.new }
 {
-    let m = matched(b"c=", l);
+    let m = matched(b"c=", l.bytes);
     if m < 2 {
-        return Part::Refused {
-            number: 9,
-            place: at + m,
-        };
+        return Err(Refusal::at(Rule::Form, l.at + m));
     }
-    if m == l.len() {
-        return Part::Read {
-            value: used as u16,
-            next: at + m,
-        };
+    if m == l.bytes.len() {
+        return Ok(Part {
+            value: used,
+            next: l.end(),
+        });
     }
-    codes_in(&l[m..], at + m, codes, used)
+    codes_in(l.behind(m), codes, used)
 }
 
 // Reads the `c=` line at `at`.
-fn context_line_from(sheet: &[u8], at: usize, codes: &mut [u16], used: usize) -> Part
+fn context_line_from(sheet: &[u8], at: usize, codes: &mut [u16], used: u16) -> Result<Part, Refusal>
     requires at_in_bounds { at ≤ length sheet.now }
     requires used_bound { used ≤ min 4096 (length codes.old) }
-    ensures value { result ≡ line_by (codes_after used) (context_line (words_lent codes) used at sheet.now) }
+    ensures value { part_said result ≡ line_by (codes_after used) (context_line (words_lent codes) used at sheet.now) }
     ensures stored { Stored (context_in (words_lent codes) used at (line_at at sheet.now)) used
         codes.old codes.new }
 {
-    let l = line_from(sheet, at);
-    let r = context_in(l, at, codes, used);
-    let Part::Read { value, next } = r else {
-        return r;
+    let l = Piece {
+        bytes: line_from(sheet, at),
+        at,
     };
-    line_end(value, next, sheet.len())
+    line_end(context_in(l, codes, used), sheet.len())
 }
 
 // Reads n `c=` lines from `at` on, and then the sheet's end.
@@ -104,34 +101,29 @@ pub(crate) fn context_lines(
     n: usize,
     offsets: &mut [u16],
     codes: &mut [u16],
-) -> Part
+) -> Result<Part, Refusal>
     requires at_in_bounds { at ≤ length sheet.now }
     requires n_bound { n < min 257 (length offsets.old) }
     ensures { Held (lines_from (words_lent codes) n at sheet.now) (length sheet.now)
-        offsets.new codes.new result }
+        offsets.new codes.new (part_said result) }
 {
     offsets[0] = 0;
-    let mut used: u16 = 0;
+    let mut used = 0;
     let mut from = at;
-    let mut i: usize = 0;
-    while i < n {
-        let r = context_line_from(sheet, from, codes, used as usize);
-        let Part::Read { value, next } = r else {
+    for i in 0..n {
+        let r = context_line_from(sheet, from, codes, used);
+        let Ok(Part { value, next }) = r else {
             return r;
         };
         used = value;
         from = next;
-        i += 1;
-        offsets[i] = used;
+        offsets[i + 1] = used;
     }
     if from < sheet.len() {
-        return Part::Refused {
-            number: 9,
-            place: from,
-        };
+        return Err(Refusal::at(Rule::Form, from));
     }
-    Part::Read {
+    Ok(Part {
         value: used,
         next: from,
-    }
+    })
 }

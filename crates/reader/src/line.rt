@@ -1,73 +1,67 @@
 // A line of a key and a number, and what every line has: its key, and its end.
-ghost use Rattle.std.specs.Prelude.{◌≡◌, ◌+◌, ◌≤◌, ◌<◌, ◌^◌, length};
+ghost use Rattle.std.specs.Prelude.{◌≡◌, ◌≤◌, length};
 ghost use Rattle.sheet.specs.Number.{number_of};
 ghost use Rattle.sheet.specs.Reading.{behind};
-ghost use Rattle.reader.specs.Parts.{part_by, line_by, itself, ended_by, matched_by, number_line};
+ghost use Rattle.reader.specs.Part.{part_said};
+ghost use Rattle.reader.specs.Parts.{line_by, itself, part_ended, matched_by, number_line};
+ghost use Rattle.reader.specs.Piece.{piece_by};
 
 use super::Part;
 use super::cut::line_from;
 use super::number::number_in;
+use super::piece::Piece;
+use refusal::{Refusal, Rule};
 
 // How many bytes of the key stand at the line's front.
-#[tactic(auto, using(crate::proofs::Keys::matching))]
 pub(crate) fn matched(key: &[u8], l: &[u8]) -> usize
     ensures { (result ≡ matched_by key.now l.now) × (result ≤ length l.now) }
 {
-    let mut i: usize = 0;
-    while i < key.len() {
-        if i >= l.len() {
-            return i;
-        }
-        if l[i] != key[i] {
-            return i;
-        }
-        i += 1;
-    }
-    i
+    key.iter().zip(l).take_while(|(x, b)| b == x).count()
 }
 
 // Reads a line that is a key and a number.
 #[tactic(auto, using(crate::proofs::Keys::number_broken, crate::proofs::Keys::number_follows))]
-fn number_behind(l: &[u8], at: usize, key: &[u8], room: usize) -> Part
-    requires { at + length l.now < 2 ^ 64 }
-    ensures { result ≡ part_by itself (at + length l.now) (behind key.now (number_of room) at l.now) }
+fn number_behind(l: Piece, key: &[u8], room: usize) -> Result<Part, Refusal>
+    ensures { part_said result ≡ piece_by itself (behind key.now (number_of room)) l.entry }
 {
-    let m = matched(key, l);
+    let m = matched(key, l.bytes);
     if m < key.len() {
-        return Part::Refused {
-            number: 9,
-            place: at + m,
-        };
+        return Err(Refusal::at(Rule::Form, l.at + m));
     }
-    number_in(&l[m..], at + m, room)
+    number_in(l.behind(m), room)
 }
 
-// Steps over the byte 10 at `next`, behind a line that was read: 9 there at the sheet's end, if none stands there.
+// Steps over the byte 10 behind the text of a line that was read: 9 there at the sheet's end, if none stands there.
 #[tactic(auto, using(crate::proofs::Ends::ended_none, crate::proofs::Ends::ended_next))]
-pub(crate) fn line_end(value: u16, next: usize, end: usize) -> Part
-    ensures { result ≡ ended_by end value next }
+pub(crate) fn line_end(reading: Result<Part, Refusal>, end: usize) -> Result<Part, Refusal>
+    ensures { part_said result ≡ part_ended end (part_said reading) }
 {
+    let Ok(Part { value, next }) = reading else {
+        return reading;
+    };
     if next >= end {
-        return Part::Refused {
-            number: 9,
-            place: next,
-        };
+        return Err(Refusal::at(Rule::Form, next));
     }
-    Part::Read {
+    Ok(Part {
         value,
         next: next + 1,
-    }
+    })
 }
 
 // Reads the line at `at`, a key and a number.
-pub(crate) fn number_line_from(sheet: &[u8], at: usize, key: &[u8], room: usize) -> Part
+#[tactic(auto, using(crate::proofs::Ends::line_over))]
+pub(crate) fn number_line_from(
+    sheet: &[u8],
+    at: usize,
+    key: &[u8],
+    room: usize,
+) -> Result<Part, Refusal>
     requires { at ≤ length sheet.now }
-    ensures { result ≡ line_by itself (number_line key.now room at sheet.now) }
+    ensures { part_said result ≡ line_by itself (number_line key.now room at sheet.now) }
 {
-    let l = line_from(sheet, at);
-    let r = number_behind(l, at, key, room);
-    let Part::Read { value, next } = r else {
-        return r;
+    let l = Piece {
+        bytes: line_from(sheet, at),
+        at,
     };
-    line_end(value, next, sheet.len())
+    line_end(number_behind(l, key, room), sheet.len())
 }

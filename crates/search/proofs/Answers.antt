@@ -1,13 +1,17 @@
 -- What an answer tells, by the paper's number and values, is the answer.
 -- So a promise may speak of the number and the values alone, and still fixes the answer.
-use mathlib.Core.List.{[], ◌∷◌}
-use mathlib.Core.Path.{◌≡◌, ap}
+use mathlib.Core.List.{List, [], ◌∷◌}
+use mathlib.Core.Path.{◌≡◌, ap, ap₂}
 use Prim.Native.Nat.{ℕ}
 use native.Mathlib.Omega.{arith}
 use lib.ListN.{length}
-use Rattle.search.specs.Outcome.{answer_number, answer_values, Tells}
-use Rattle.search.specs.declared.Answer.{Answer}
-use Rattle.search.specs.declared.Answer.TheVariants as answer
+use Rattle.std.specs.Prelude.{Result}
+use Rattle.refusal.specs.declared.Refusal.{Refusal}
+use Rattle.refusal.proofs.Said.{Telling, said_tells}
+use Rattle.search.specs.declared.Counted.{Counted}
+use Rattle.search.specs.Outcome.{Outcome, outcome, seen, answer_said, answer_number, answer_values, Tells}
+use Rattle.search.specs.Answer.{Answer}
+use Rattle.search.specs.Answer as answer
 
 module _ {n p : ℕ} where
   pub tells_refused : (r : Answer) → Tells r n (p ∷ []) → r ≡ answer.Refused n p
@@ -27,3 +31,23 @@ module _ {f e m : ℕ} where
 
   pub listed_tells : {r : Answer} → r ≡ answer.Listed f e m → Tells r 0 (f ∷ e ∷ m ∷ [])
   listed_tells q = (ap answer_number q, ap answer_values q)
+
+-- ---- what a result says as an answer tells the result
+
+answers_tell : Telling (λ (c : Counted). answer.Listed c.found c.events c.met) answer.Refused
+answers_tell = record {
+  told = λ a b e.
+      let x : a.found ≡ b.found = cc e in
+      let y : a.events ≡ b.events = cc e in
+      let z : a.met ≡ b.met = cc e in λ i. record { found = x i; events = y i; met = z i };
+  apart = λ a n p e. let z : ◌≡◌ {A = ℕ} 0 1 = cc e in omega arith;
+  number = λ n p m q e. cc e;
+  place = λ n p m q e. cc e;
+}
+
+pub answer_tells : (u v : Result Counted Refusal) → answer_said u ≡ answer_said v → u ≡ v
+answer_tells u v e = said_tells answers_tell u v e
+
+-- one outcome is of one result
+pub seen_only : {u v : Result Counted Refusal} {l m w x t y : List ℕ} → outcome (answer_said u) l w t ≡ outcome (answer_said v) m x y → seen u l w t ≡ seen v m x y
+seen_only {u} {v} e = ap₂ (λ r o. (r, o)) (answer_tells u v (ap (λ (o : Outcome). o.answer) e)) e

@@ -1,11 +1,11 @@
 -- The work area in its parts: what is written to one of them leaves the others.
 use mathlib.Core.List.{List, ◌++◌}
 use mathlib.Core.Path.{◌≡◌, sym, ap, ◌∙◌}
-use Prim.Native.Nat.{ℕ, ◌+◌, ◌≤◌, ◌<◌}
+use Prim.Native.Nat.{ℕ, ◌+◌, ◌<◌}
 use native.Mathlib.Omega.{arith}
 use lib.ListN.{length, take, drop, length-drop}
 use lib.Seq.{take_at, drop_at, take-take, drop-drop, drop-append-add, length-take-le}
-use borrow.Rule.Slice.PartMut.{put_mid}
+use borrow.Rule.Slice.PartMut.{put_mid, same_len_mid}
 use Rattle.site.specs.Site.{codes_of}
 use Rattle.site.specs.Tables.{site_of}
 use Rattle.words.proofs.Lists.{slice_is}
@@ -14,7 +14,7 @@ use Rattle.tables.proofs.Sound.{place_small}
 use Rattle.marks.specs.Marks.{code_words, HaveMarks}
 use Rattle.marks.proofs.Loops.{small_by}
 use Rattle.agenda.specs.Layout.{agenda_room}
-use Rattle.search.specs.Search.{pair_words, agenda_part, marks_part, pairs_part, Remarked}
+use Rattle.search.specs.Search.{pair_words, Wide, agenda_part, marks_part, pairs_part, Remarked}
 
 -- behind one part, and behind two
 behind_one : (a b : ℕ) (xs ys : List ℕ) → length xs ≡ a → drop (a + b) (xs ++ ys) ≡ drop b ys
@@ -31,7 +31,7 @@ module _ (work work' : List ℕ) (e : take (agenda_room + code_words) work' ≡ 
   front_marks : marks_part work' ≡ marks_part work
   front_marks = slice_is agenda_room (agenda_room + code_words) work' ∙ ap (drop agenda_room) e ∙ sym (slice_is agenda_room (agenda_room + code_words) work)
 
-module _ (work : List ℕ) (wide : 10240 ≤ length work) where
+module _ (work : List ℕ) (wide : Wide work) where
   pub agenda_long : length (agenda_part work) ≡ agenda_room
   agenda_long = length-take-le agenda_room work (omega arith)
 
@@ -68,6 +68,10 @@ module _ (work : List ℕ) (wide : 10240 ≤ length work) where
 
     pub pairs_besides : (agenda_part out ≡ agenda_part work) × (marks_part out ≡ marks_part work)
     pairs_besides = let e = take_at (take (agenda_room + code_words) work) _ (agenda_room + code_words) front_long in (front_agenda work out e, front_marks work out e)
+
+    -- the work area stays as long
+    pub pairs_wide : Wide out
+    pairs_wide = omega (arith, same_len_mid (agenda_room + code_words) pair_words work marks (long ∙ sym pairs_long))
 
     pub pairs_written : pairs_part out ≡ marks
     pairs_written = ap (take pair_words) (drop_at (take (agenda_room + code_words) work) _ (agenda_room + code_words) front_long) ∙ take_at marks _ pair_words long

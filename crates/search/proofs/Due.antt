@@ -21,9 +21,7 @@ use Rattle.trail.proofs.Loop.{Unreached, unreached}
 use Rattle.words.proofs.Lists.{get_elem?_is, get_elem?_none}
 use Rattle.words.proofs.Split.{by_le}
 use Rattle.agenda.specs.Agenda.{first_events}
-use Rattle.agenda.specs.Next.{next_is, event_is, no_event}
-use Rattle.agenda.specs.declared.Next.{Next}
-use Rattle.agenda.specs.declared.Next.TheVariants.{At, Over}
+use Rattle.agenda.specs.Next.{Next, At, Over, next_is, event_is, no_event}
 use Rattle.agenda.proofs.Counts.{split_at, event_at, left_is}
 use Rattle.agenda.proofs.Coming.{Coming, coming}
 use Rattle.search.specs.Search.{due_of}

@@ -1,14 +1,14 @@
 -- The two buffers in the search: they start empty, and one more pair goes into both.
 -- The list is the entries' matter; here are the words of the trail, which are written only where there is room.
 use mathlib.Core.List.{List, [], ◌∷◌, ◌++◌}
-use mathlib.Core.Path.{◌≡◌, refl, sym, ap, ap₂, ◌∙◌}
+use mathlib.Core.Path.{◌≡◌, refl, sym, ap, ◌∙◌}
 use Prim.Native.Nat.{ℕ, ◌+◌, ◌*◌, ◌≤◌, ◌<◌, min}
 use native.Mathlib.Omega.{arith}
 use lib.ListN.{length, set, replicate, length-append}
-use Rattle.site.specs.Site.{Site, Rising, Pair, codes_of, shared, union, shared_of, union_of, first_code_of}
+use Rattle.site.specs.Site.{Site, Rising, Pair, shared, shared_of}
 use Rattle.site.specs.Events.{pair_of}
 use Rattle.site.specs.declared.Context.{Context}
-use Rattle.site.proofs.Contexts.{shared_turn, union_turn}
+use Rattle.site.proofs.Contexts.{shared_turn}
 use Rattle.site.proofs.Meeting.{of_pair}
 use Rattle.words.specs.Words.{flat, Begins}
 use Rattle.words.proofs.Words.{flat_append, flat_one, flat_length, begins_two}
@@ -16,10 +16,9 @@ use Rattle.entries.specs.Entries.{entry_of, Inserts}
 use Rattle.entries.specs.declared.Entry.{Entry}
 use Rattle.entries.proofs.Alike.{union_positive}
 use Rattle.entries.proofs.Listed.{listed_start, listed_add}
-use Rattle.search.specs.Search.{context_is, pair_is, shared_by, pairs_part, Kept, Takes, After}
+use Rattle.search.specs.Search.{context_is, shared_by, pairs_part, Kept, Takes, After}
 use Rattle.search.specs.Outcome.{numbers, trail_words}
 use Rattle.search.specs.declared.Counts.{Counts}
-use Rattle.search.specs.declared.TwoContexts.{TwoContexts}
 
 pub trail_length : (pairs : List Pair) → length (trail_words pairs) ≡ 2 * length pairs
 trail_length pairs = flat_length numbers 2 (λ p. refl) pairs
@@ -28,25 +27,12 @@ pub kept_start : (site : Site) (k : ℕ) {list buffer : List ℕ} → list ≡ r
 unfolding flat
 kept_start site k {list} e = record { listed = rw e (listed_start site k (length list)); trailed = λ h. refl; met = refl }
 
--- what two contexts share and have in all does not depend on their order
+-- what two contexts share does not depend on their order
 module _ {site : Site} (R : Rising site) (c d : Context) where
-  pair_shared : shared_of site (pair_of (context_is c) (context_is d)) ≡ shared_by site c d
+  pub pair_shared : shared_of site (pair_of (context_is c) (context_is d)) ≡ shared_by site c d
   pair_shared = of_pair site shared (context_is c) (context_is d) (shared_turn R d.0 c.0)
 
-  pair_union : union_of site (pair_of (context_is c) (context_is d)) ≡ union (codes_of site c.0) (codes_of site d.0)
-  pair_union = of_pair site union (context_is c) (context_is d) (union_turn R d.0 c.0)
-
-  -- the entry that is made is that of the pair
-  pub entry_is : {xs ys : List ℕ} {n m x : ℕ} {r : TwoContexts} → xs ≡ codes_of site c.0 → ys ≡ codes_of site d.0 → n ≡ shared_by site c d → x ≡ first_code_of site (pair_of (context_is c) (context_is d)) → m ≡ union xs ys → pair_is r ≡ pair_of (context_is c) (context_is d)
-      → ◌≡◌ {A = Entry} (record { lower = r.lower; higher = r.higher; shared = n; union = m; code = x }) (entry_of site (pair_of (context_is c) (context_is d)))
-  entry_is e f g x h q =
-      let a = ap (λ (p : Pair). p.lower) q in
-      let b = ap (λ (p : Pair). p.higher) q in
-      let s = g ∙ sym pair_shared in
-      let u = h ∙ ap₂ union e f ∙ sym pair_union in
-      λ i. record { lower = record { 0 = a i }; higher = record { 0 = b i }; shared = s i; union = u i; code = x i }
-
-  -- and where they share a code, its union is not 0
+  -- where they share a code, the union of their entry is not 0
   pub entry_positive : {e : Entry} → e ≡ entry_of site (pair_of (context_is c) (context_is d)) → 0 < shared_by site c d → 0 < e.union
   entry_positive {e} q h = let s : 0 < shared_of site (pair_of (context_is c) (context_is d)) = rw pair_shared h in omega (arith, ap (λ (f : Entry). f.union) q, union_positive R (pair_of (context_is c) (context_is d)) s)
 

@@ -2,10 +2,9 @@
 -- The list is cleared first; at the end the trail behind what is met, and the work area. After a refusal all three are.
 use mathlib.Core.List.{List}
 use mathlib.Core.Path.{◌≡◌, sym, ap, ◌∙◌}
-use Prim.Native.Nat.{ℕ, ◌-◌, ◌*◌, ◌≤◌, ◌<◌}
-use native.Mathlib.Nat.{sub-zero}
+use Prim.Native.Nat.{ℕ, ◌*◌, ◌≤◌, ◌<◌}
 use native.Mathlib.Omega.{arith}
-use lib.ListN.{length, replicate, length-replicate}
+use lib.ListN.{length, replicate}
 use borrow.Author.Tests.{lt-ltb, le-ltb}
 use Rattle.site.specs.Measure.{in_use}
 use Rattle.site.specs.Site.{Site}
@@ -16,18 +15,11 @@ use Rattle.words.proofs.Split.{by_le}
 use Rattle.words.proofs.Words.{begins_zeroed}
 use Rattle.search.specs.Outcome.{outcome, zeros, trail_need, listed_words, met_words, search_of}
 use Rattle.search.specs.Search.{Searched}
-use Rattle.search.specs.declared.Answer.{Answer}
-use Rattle.search.specs.declared.Answer.TheVariants as answer
+use Rattle.search.specs.Answer.{Answer}
+use Rattle.search.specs.Answer as answer
 use Rattle.search.proofs.Kept.{trail_length}
 
--- what `clear` leaves
-pub all_zero : (n : ℕ) {out : List ℕ} → out ≡ replicate (n - 0) 0 → out ≡ replicate n 0
-all_zero n e = rw (← sub-zero n) e
-
--- zeros of a length are zeros of their own length, and of an equal one
-pub zeros_own : (old : List ℕ) {now : List ℕ} → now ≡ zeros old → now ≡ zeros now
-zeros_own old {now} e = let l : length now ≡ length old = ap length e ∙ length-replicate (length old) 0 in rw l e
-
+-- zeros of a length are zeros of an equal one
 pub zeros_as : (old : List ℕ) (m : ℕ) {now : List ℕ} → now ≡ replicate m 0 → m ≡ length old → now ≡ zeros old
 zeros_as old m e q = rw (← q) e
 
@@ -66,7 +58,3 @@ module _ {site : Site} {k : ℕ} {list buffer : List ℕ} {r : Answer} (w : Sear
         let i : 2 * m ≡ length (met_words k site) = omega (arith, n, trail_length (trail_of in_use site k), trail_met in_use site k) in
         let b : buffer' ≡ padded (length buffer₀) (met_words k site) = cut ∙ begins_zeroed buffer (met_words k site) i (w.trailed h) ∙ ap (λ (i : ℕ). padded i (met_words k site)) lb in
         rw (le-ltb (length buffer₀) (trail_need k site) t) (λ i. record { answer = q i; list = l i; work = cleared i; trail = b i })
-
-  -- the counted pairs are on the trail
-  pub counted_room : {f e m : ℕ} → r ≡ answer.Listed f e m → 2 * m ≤ length buffer
-  counted_room {f} {e} {m} z = let h = counted_fits z in let n : m ≡ met in_use site k = cc (z, w.told h) in omega (arith, h, n)

@@ -7,7 +7,6 @@ use Prim.Native.Nat.{ℕ, suc, ◌+◌, ◌*◌, ◌/◌, ◌≤◌, ◌<◌}
 use native.Mathlib.Numerals.{add-one}
 use native.Mathlib.Omega.{arith}
 use lib.ListN.{length, drop, length-append}
-use Rattle.site.specs.Ratio.{reaches}
 use Rattle.site.specs.Measure.{in_use}
 use Rattle.site.specs.Events.{Event, cut_off, events_of, met_from, met_after}
 use Rattle.site.specs.Tables.{site_of}
@@ -20,8 +19,7 @@ use Rattle.tables.specs.Sound.{Sound}
 use Rattle.tables.proofs.Sound.{sound_rises}
 use Rattle.marks.specs.Marks.{marks_of}
 use Rattle.agenda.specs.Agenda.{first_events, Agenda}
-use Rattle.agenda.specs.Next.{next_is}
-use Rattle.agenda.specs.declared.Next.TheVariants.{At, Over}
+use Rattle.agenda.specs.Next.{At, Over, next_is}
 use Rattle.agenda.proofs.Counts.{events_many, split_at, left_is, one_more}
 use Rattle.agenda.proofs.Coming.{Coming, coming}
 use Rattle.agenda.proofs.Standing.{done_length}
@@ -29,7 +27,7 @@ use Rattle.agenda.specs.Next.{event_is}
 use Rattle.search.specs.Search.{pair_words, agenda_part, pairs_part, due_of, After, Searched}
 use Rattle.search.specs.Outcome.{zeros}
 use Rattle.search.specs.declared.Counts.{Counts}
-use Rattle.search.specs.declared.Answer.TheVariants as answer
+use Rattle.search.specs.Answer as answer
 use Rattle.search.proofs.Kept.{kept_start}
 use Rattle.search.proofs.Due.{due_at, due_end}
 

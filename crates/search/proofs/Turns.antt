@@ -3,7 +3,7 @@
 use mathlib.Core.Bool.{Bool}
 use mathlib.Core.List.{List, [], ◌∷◌, ◌++◌, append_assoc, append-nil}
 use mathlib.Core.Path.{◌≡◌, refl, sym, ap, ◌∙◌}
-use Prim.Native.Nat.{ℕ, suc, ◌+◌, ◌-◌, ◌*◌, ◌≤◌, ◌<◌, zero-le}
+use Prim.Native.Nat.{ℕ, suc, ◌+◌, ◌-◌, ◌≤◌, ◌<◌, zero-le}
 use native.Mathlib.Numerals.{add-one}
 use native.Mathlib.Omega.{arith}
 use lib.ListN.{length, get_or, get_elem?, take, drop, length-append, take-append-drop}
@@ -18,20 +18,18 @@ use Rattle.site.specs.declared.Place.{Place}
 use Rattle.trail.proofs.Gathered.{met_at_posting}
 use Rattle.tables.specs.Sound.{Sound}
 use Rattle.tables.proofs.Sound.{sound_rises}
-use Rattle.entries.specs.Entries.{width, Ordered}
+use Rattle.entries.specs.Entries.{Ordered}
 use Rattle.entries.specs.Listed.{Proper}
 use Rattle.entries.proofs.Listed.{listed_few, listed_ordered}
 use Rattle.agenda.specs.Agenda.{first_events, posted_of, Agenda}
 use Rattle.agenda.specs.Next.{event_is, no_event}
-use Rattle.agenda.specs.Postings.{posted_is}
-use Rattle.agenda.specs.declared.Posted.{Posted}
-use Rattle.agenda.specs.declared.Posted.TheVariants.{At, Over}
+use Rattle.agenda.specs.Postings.{Posted, At, Over, posted_is}
 use Rattle.agenda.proofs.Counts.{events_many}
 use Rattle.agenda.proofs.Coming.{Coming}
 use Rattle.agenda.proofs.Standing.{code_read}
 use Rattle.agenda.proofs.Noted.{noted_small}
 use Rattle.agenda.proofs.Marks.{posted_over, posted_here, posted_is_lem, posted_short}
-use Rattle.search.specs.Search.{Beside, met_with, agenda_part, Remarked, Laid, After, Meets}
+use Rattle.search.specs.Search.{Beside, met_with, Wide, RoomFor, agenda_part, AgendaIn, Remarked, Laid, After, Meets}
 use Rattle.search.specs.declared.Counts.{Counts}
 use Rattle.search.specs.declared.Progress.{Progress}
 use Rattle.search.proofs.Kept.{after_same}
@@ -50,12 +48,11 @@ pub record Turning (os cs : List ℕ) (k n : ℕ) (c : Context) (p : Place) (x j
   pub agenda : Agenda (site_of os cs) n (agenda_part work)
   pub same : agenda_part work ≡ agenda_part work₀
   pub laid : Laid (site_of os cs) c t.marked work
-  pub wide : 10240 ≤ length work
+  pub wide : Wide work
   pub coming : Coming (site_of os cs) n c p
   pub code : x ≡ code_at (site_of os cs) (event_is c p)
   pub small : x < 4096
-  pub few : k ≤ 64
-  pub room : width * k ≤ length list
+  pub room : RoomFor k list
   pub after : After (site_of os cs) k (met_after in_use (site_of os cs) n ++ met_at (site_of os cs) (take j (posted_of (site_of os cs) n x)) (event_is c p)) list work buffer t.counts
   pub passed : j ≤ length (posted_of (site_of os cs) n x)
   pub list_long : length list ≡ length list₀
@@ -66,8 +63,8 @@ pub record Turning (os cs : List ℕ) (k n : ℕ) (c : Context) (p : Place) (x j
 pub turning_small : {os cs : List ℕ} {n : ℕ} {c : Context} {p : Place} {part : List ℕ} → Sound os cs → Coming (site_of os cs) n c p → part ≡ codes_of (site_of os cs) c.0 → get_or part (p.0 - 1) 0 < 4096
 turning_small s m e = noted_small s m.occurs e
 
-pub turning_start : (work₀ : List ℕ) {os cs work : List ℕ} {k n : ℕ} {c : Context} {p : Place} {part list buffer : List ℕ} {t : Counts} {marked : Bool} → Sound os cs → (10240 ≤ length work₀) × Agenda (site_of os cs) n (agenda_part work₀) → Coming (site_of os cs) n c p → part ≡ codes_of (site_of os cs) c.0
-    → (k ≤ 64) × (width * k ≤ length list) → After (site_of os cs) k (met_after in_use (site_of os cs) n) list work₀ buffer t → length work ≡ length work₀ → Remarked work₀ work → Laid (site_of os cs) c marked work
+pub turning_start : (work₀ : List ℕ) {os cs work : List ℕ} {k n : ℕ} {c : Context} {p : Place} {part list buffer : List ℕ} {t : Counts} {marked : Bool} → Sound os cs → AgendaIn (site_of os cs) n work₀ → Coming (site_of os cs) n c p → part ≡ codes_of (site_of os cs) c.0
+    → RoomFor k list → After (site_of os cs) k (met_after in_use (site_of os cs) n) list work₀ buffer t → length work ≡ length work₀ → Remarked work₀ work → Laid (site_of os cs) c marked work
     → Turning os cs k n c p (get_or part (p.0 - 1) 0) 0 list work buffer list work buffer (record { counts = t; marked = marked })
 unfolding met_at keep
 turning_start work₀ {os} {cs} {work} {k} {n} {c} {p} s A m e r w long same laid = record {
@@ -79,8 +76,7 @@ turning_start work₀ {os} {cs} {work} {k} {n} {c} {p} s A m e r w long same lai
   coming = m;
   code = code_read (site_of os cs) (event_is c p) e;
   small = turning_small s m e;
-  few = r.0;
-  room = r.1;
+  room = r;
   after = rw (append-nil (met_after in_use (site_of os cs) n)) (after_same w same.1);
   passed = zero-le;
   list_long = refl;
@@ -172,7 +168,6 @@ module _ {os cs : List ℕ} {k n : ℕ} {c : Context} {p : Place} {x j : ℕ} {l
             coming = w.coming;
             code = w.code;
             small = w.small;
-            few = w.few;
             room = rw l w.room;
             after = rw more (meets now proper w.after);
             passed = omega (arith, turning_more);

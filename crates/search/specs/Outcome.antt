@@ -1,13 +1,15 @@
 -- What the search makes of a site that is accepted: the answer, and every word of the three buffers.
 -- The join's own outcome is this one wherever its checks accept.
-use Rattle.std.specs.Prelude.{cond, List, [], ◌∷◌, ◌≡◌, ℕ, ◌*◌, ltb, length, replicate}
+use Rattle.std.specs.Prelude.{cond, List, [], ◌∷◌, ◌≡◌, ℕ, ◌*◌, Result, ltb, length, replicate}
 use Rattle.site.specs.Measure.{in_use}
 use Rattle.site.specs.Site.{Site, Pair, list_of}
 use Rattle.site.specs.Events.{found, events, met, trail as trail_of}
 use Rattle.words.specs.Words.{flat, padded}
 use Rattle.entries.specs.Listed.{entry_words}
-use Rattle.search.specs.declared.Answer.{Answer}
-use Rattle.search.specs.declared.Answer.TheVariants as answer
+use Rattle.refusal.specs.declared.Refusal.{Refusal}
+use Rattle.search.specs.declared.Counted.{Counted}
+pub use Rattle.search.specs.Answer.{Answer, answer_said}
+use Rattle.search.specs.Answer as answer
 
 -- the number of an answer: that of its refusal, and 0 where it lists
 abbrev pub answer_number : Answer → ℕ
@@ -33,6 +35,10 @@ pub record Outcome : Type 0 where
 -- the four of them
 abbrev pub outcome : Answer → List ℕ → List ℕ → List ℕ → Outcome
 outcome r list work trail = record { answer = r; list = list; work = work; trail = trail }
+
+-- what is seen of a call: its result, and its outcome
+abbrev pub seen : Result Counted Refusal → List ℕ → List ℕ → List ℕ → Result Counted Refusal × Outcome
+seen r list work trail = (r, outcome (answer_said r) list work trail)
 
 -- a buffer as long, of zeros
 abbrev pub zeros : List ℕ → List ℕ

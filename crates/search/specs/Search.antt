@@ -11,22 +11,31 @@ use Rattle.site.specs.Events.{Event, Occurs, code_at, first_place, pair_of, ceil
 use Rattle.site.specs.declared.Context.{Context}
 use Rattle.site.specs.declared.Place.{Place}
 use Rattle.words.specs.Words.{Holds, Begins}
+use Rattle.tables.specs.declared.accepted.Tables.{Tables}
 use Rattle.marks.specs.Marks.{code_words, marks_of}
 use Rattle.agenda.specs.Layout.{agenda_room}
 use Rattle.agenda.specs.Agenda.{Agenda}
 use Rattle.agenda.specs.Next.{event_is}
-use Rattle.entries.specs.Entries.{entry_of}
+use Rattle.entries.specs.Entries.{width, entry_of}
 use Rattle.entries.specs.declared.Entry.{Entry}
 use Rattle.entries.specs.Listed.{Listed, Proper}
 use Rattle.search.specs.Outcome.{trail_words, counted, trail_need, listed_words, met_words}
 use Rattle.search.specs.declared.TwoContexts.{TwoContexts}
 use Rattle.search.specs.declared.Counts.{Counts}
-use Rattle.search.specs.declared.Answer.{Answer}
-use Rattle.search.specs.declared.Answer.TheVariants as answer
+use Rattle.search.specs.Answer.{Answer}
+use Rattle.search.specs.Answer as answer
 
 -- an event of a context, at no place
 abbrev pub context_is : Context → Event
 context_is c = record { context = c.0; place = 0 }
+
+-- the pair of two contexts
+abbrev pub pair_is : TwoContexts → Pair
+pair_is p = record { lower = p.lower.0; higher = p.higher.0 }
+
+-- a context of the tables
+abbrev pub IsContext : Tables → Context → Type 0
+IsContext tables c = c.0 + 1 < length tables.offsets.now
 
 -- the pairs of so many contexts have marks
 abbrev pub most : ℕ
@@ -63,6 +72,10 @@ met_with site c p d = cond (first_here site c p d) (pair_of (context_is c) (cont
 
 -- ---- the work area
 
+-- it has its 10,240 words
+abbrev pub Wide : List ℕ → Type 0
+Wide work = 10240 ≤ length work
+
 -- the words of the agenda
 abbrev pub agenda_part : List ℕ → List ℕ
 agenda_part work = take agenda_room work
@@ -77,7 +90,7 @@ pairs_part work = take pair_words (drop (agenda_room + code_words) work)
 
 -- there is a work area, and the agenda stands in its part of it
 abbrev pub AgendaIn : Site → ℕ → List ℕ → Type 0
-AgendaIn site events work = (10240 ≤ length work) × Agenda site events (agenda_part work)
+AgendaIn site events work = Wide work × Agenda site events (agenda_part work)
 
 -- only the marks of codes have changed
 abbrev pub Remarked : List ℕ → List ℕ → Type 0
@@ -95,23 +108,23 @@ pair_number p = most * p.lower + p.higher
 abbrev pub Seen : Site → List Pair → List ℕ → Type 0
 Seen site pairs work = length site ≤ most → pairs_part work ≡ marks_of pair_words (map pair_number pairs)
 
--- by them the pair of two contexts is one that was met
-abbrev pub MetBefore : Site → Context → Context → List ℕ → Type 0
-MetBefore site c d work = (pairs : List Pair) → Proper site pairs → Seen site pairs work → pair_of (context_is c) (context_is d) ∈ pairs
+-- by them a pair is one that was met
+abbrev pub MetBefore : Site → Pair → List ℕ → Type 0
+MetBefore site p work = (pairs : List Pair) → Proper site pairs → Seen site pairs work → p ∈ pairs
 
 -- and now it is
-abbrev pub Noted : Site → Context → Context → List ℕ → List ℕ → Type 0
-Noted site c d work work' = (pairs : List Pair) → Seen site pairs work → Seen site (pairs ++ pair_of (context_is c) (context_is d) ∷ []) work'
+abbrev pub Noted : Site → Pair → List ℕ → List ℕ → Type 0
+Noted site p work work' = (pairs : List Pair) → Seen site pairs work → Seen site (pairs ++ p ∷ []) work'
 
 -- ---- the list and the trail
+
+-- k pairs are asked for, and the list has room for so many entries
+abbrev pub RoomFor : ℕ → List ℕ → Type 0
+RoomFor k list = (0 < k) × (k ≤ 64) × (width * k ≤ length list)
 
 -- the trail with an entry's contexts behind the `met` pairs on it
 abbrev pub with_contexts : List ℕ → ℕ → Entry → List ℕ
 with_contexts trail met e = set (set trail (2 * met) e.lower.0) (2 * met + 1) e.higher.0
-
--- the pair of two contexts
-abbrev pub pair_is : TwoContexts → Pair
-pair_is p = record { lower = p.lower.0; higher = p.higher.0 }
 
 -- after some pairs: the list holds the k most alike, and the trail begins with all of them where it has room
 pub record Kept (site : Site) (k : ℕ) (pairs : List Pair) (list buffer : List ℕ) (n : Counts) : Type 0 where

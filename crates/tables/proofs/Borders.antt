@@ -6,8 +6,8 @@ use Prim.Native.Nat.{ℕ}
 use Rattle.tables.specs.Earliest.{first_of, earliest}
 use Rattle.tables.specs.Rules.{end_rule, offset_rule, member, code_rule_by, code_rule}
 use Rattle.tables.specs.Checks.{sizes_check, tables_check}
-use Rattle.tables.specs.declared.Check.{Check}
-use Rattle.tables.specs.declared.Check.TheVariants.{Fine, Refused}
+use Rattle.tables.specs.Check.{Check}
+use Rattle.tables.specs.Check.{Fine, Refused}
 
 pub record Border : Type 0 where
   pub k : ℕ

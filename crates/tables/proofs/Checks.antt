@@ -10,8 +10,8 @@ use lib.ListN.{length}
 use borrow.Author.Tests.{ltb-false, eqb-false}
 use Rattle.tables.specs.Checks.{when, ◌and_then◌, sizes_check, offsets_check, codes_check, tables_check}
 use Rattle.tables.specs.Sound.{Sound}
-use Rattle.tables.specs.declared.Check.{Check}
-use Rattle.tables.specs.declared.Check.TheVariants.{Fine, Refused}
+use Rattle.tables.specs.Check.{Check}
+use Rattle.tables.specs.Check.{Fine, Refused}
 
 -- ---- a chain of checks
 

@@ -8,7 +8,7 @@ use native.Mathlib.Omega.{arith}
 use borrow.Author.Tests.{eq-eqb, ne_eqb}
 use Rattle.words.proofs.Split.{by_eq}
 use Rattle.tables.specs.Earliest.{first_of, earliest}
-use Rattle.tables.specs.declared.Check.TheVariants.{Fine, Refused}
+use Rattle.tables.specs.Check.{Fine, Refused}
 
 -- the rule is kept from a up to, and without, e
 abbrev pub RuleKept : (ℕ → ℕ) → ℕ → ℕ → Type 0

@@ -13,8 +13,8 @@ use lib.ListN.{length, get_or}
 use Rattle.words.proofs.Split.{by_eq, by_le}
 use Rattle.tables.specs.Earliest.{first_of, earliest}
 use Rattle.tables.specs.Rules.{end_rule, offset_rule, code_rule, part_rule, member}
-use Rattle.tables.specs.declared.Check.{Check}
-use Rattle.tables.specs.declared.Check.TheVariants.{Fine, Refused}
+use Rattle.tables.specs.Check.{Check}
+use Rattle.tables.specs.Check.{Fine, Refused}
 use Rattle.tables.proofs.Meaning.{RuleKept, FirstBreak, fine_means, skip, refused_means, means_refused, earliest_ext}
 
 member_here : (xs : List ℕ) (i : ℕ) → i < length xs → member (get_or xs i 0) xs ≡ true

@@ -14,8 +14,8 @@ use Rattle.site.specs.Tables.{site_of}
 use Rattle.tables.specs.Rules.{offset_rule, code_rule}
 use Rattle.tables.specs.Checks.{◌and_then◌, sizes_check, offsets_check, codes_check, tables_check}
 use Rattle.tables.specs.Refusals.{WrongK, WrongSizes, WrongOffset, NotAbove, Breaks, wrong_k, wrong_sizes, wrong_offset, large_code, code_falls, Broken, Stands, Unbroken}
-use Rattle.tables.specs.declared.Check.{Check}
-use Rattle.tables.specs.declared.Check.TheVariants.{Fine, Refused}
+use Rattle.tables.specs.Check.{Check}
+use Rattle.tables.specs.Check.{Fine, Refused}
 use Rattle.tables.proofs.Meaning.{FirstBreak, fine_means, refused_means}
 use Rattle.tables.proofs.Rulings.{offset_said, large_refused, fall_refused, code_said}
 use Rattle.tables.proofs.Turns.{k_wrong, k_kept, sizes_wrong, sizes_kept, later_turn, same_turn, one_first, by_rule}

@@ -13,7 +13,7 @@ use Rattle.words.proofs.Split.{by_eq, by_le}
 use Rattle.tables.specs.Earliest.{earliest}
 use Rattle.tables.specs.Rules.{end_rule, offset_rule, member, code_rule, code_rule_by}
 use Rattle.tables.specs.Refusals.{WrongOffset, NotAbove}
-use Rattle.tables.specs.declared.Check.TheVariants.{Fine}
+use Rattle.tables.specs.Check.{Fine}
 use Rattle.tables.proofs.Parts.{first_zero, last_is, begins}
 
 -- ---- offsets

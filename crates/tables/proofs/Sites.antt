@@ -17,7 +17,7 @@ use Rattle.site.specs.Tables.{site_of, offsets_from, all_codes}
 use Rattle.site.proofs.Tables.{site_codes, slice_at}
 use Rattle.tables.specs.Checks.{tables_check}
 use Rattle.tables.specs.Refusals.{Breaks, wrong_k, wrong_sizes, wrong_offset, large_code, code_falls, Stands}
-use Rattle.tables.specs.declared.Check.TheVariants.{Fine}
+use Rattle.tables.specs.Check.{Fine}
 use Rattle.tables.proofs.Cuts.{site_back}
 use Rattle.tables.proofs.Refusals.{fine_exactly}
 

@@ -2,8 +2,8 @@
 use Rattle.std.specs.Prelude.{Bool, cond, ◌||◌, List, ℕ, eqb, ltb, length}
 use Rattle.tables.specs.Earliest.{earliest}
 use Rattle.tables.specs.Rules.{offset_rule, code_rule}
-use Rattle.tables.specs.declared.Check.{Check}
-use Rattle.tables.specs.declared.Check.TheVariants.{Fine, Refused}
+use Rattle.tables.specs.Check.{Check}
+use Rattle.tables.specs.Check.{Fine, Refused}
 
 infixr 20 ◌and_then◌
 -- the paper's number of an answer; 0 where nothing is refused

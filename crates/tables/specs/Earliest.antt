@@ -1,7 +1,7 @@
 -- A rule gives each index the number it is refused with, or 0. What is refused is the earliest index with a number.
 use Rattle.std.specs.Prelude.{cond, ℕ, zero, suc, ◌-◌, eqb}
-use Rattle.tables.specs.declared.Check.{Check}
-use Rattle.tables.specs.declared.Check.TheVariants.{Fine, Refused}
+use Rattle.tables.specs.Check.{Check}
+use Rattle.tables.specs.Check.{Fine, Refused}
 
 -- of the n indices from i
 unfoldable pub first_of : (ℕ → ℕ) → ℕ → ℕ → Check

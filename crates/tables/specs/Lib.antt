@@ -1,3 +1,5 @@
+-- what a check says
+pub mod Check
 -- the earliest index that a rule refuses
 pub mod Earliest
 -- the rules of offsets and codes
@@ -6,5 +8,7 @@ pub mod Rules
 pub mod Checks
 -- tables that pass 2 to 5
 pub mod Sound
+-- accepted tables and their site
+pub mod Accepted
 -- what it means to be refused, and not to be
 pub mod Refusals

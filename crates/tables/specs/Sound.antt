@@ -1,7 +1,7 @@
 -- Tables that the checks 2 to 5 accept: a site.
 use Rattle.std.specs.Prelude.{List, ◌≡◌, ℕ, ◌≤◌, ◌<◌, length}
 use Rattle.tables.specs.Checks.{offsets_check, codes_check}
-use Rattle.tables.specs.declared.Check.TheVariants.{Fine}
+use Rattle.tables.specs.Check.{Fine}
 
 -- sizes within their limits, and no offset or code that breaks its rule
 pub record Sound (offsets codes : List ℕ) : Type 0 where

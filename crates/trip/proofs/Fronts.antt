@@ -14,7 +14,7 @@ use Rattle.sheet.proofs.Tables.{offsets_length}
 use Rattle.sheet.proofs.WritesBack.{writes_back}
 use Rattle.tables.proofs.Cuts.{site_back, tables_back}
 use Rattle.tables.specs.Sound.{Sound}
-use Rattle.reader.specs.declared.Reading.TheVariants as reading
+use Rattle.reader.specs.Reading as reading
 use Rattle.reader.specs.Answers.{reading_of, offsets_by, codes_by}
 use Rattle.writer.proofs.Sheets.{one_less}
 

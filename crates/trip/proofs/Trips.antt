@@ -13,11 +13,11 @@ use Rattle.sheet.proofs.ReadsBack.{reads_back}
 use Rattle.tables.specs.Refusals.{Unbroken}
 use Rattle.tables.proofs.Checks.{accepted}
 use Rattle.tables.proofs.Refusals.{fine_exactly}
-use Rattle.reader.specs.declared.Reading.{Reading}
+use Rattle.reader.specs.Reading.{Reading}
 use Rattle.reader.specs.Answers.{ReadingTells}
 use Rattle.reader.specs.Calls.{Reads}
 use Rattle.reader.proofs.Answers.{tells_sheet, sheet_tells, reads_answer}
-use Rattle.writer.specs.declared.Writing.{Writing}
+use Rattle.writer.specs.Writes.{Writing}
 use Rattle.writer.specs.Writes.{WritingTells}
 use Rattle.writer.specs.Calls.{Writes}
 use Rattle.writer.proofs.Answers.{told_written, accepted_written}

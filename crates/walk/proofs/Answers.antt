@@ -13,9 +13,7 @@ use Rattle.site.specs.Site.{shared}
 use Rattle.site.specs.Events.{meet_of, first_place}
 use Rattle.site.proofs.Contexts.{first_shared}
 use Rattle.words.proofs.Split.{by_le}
-use Rattle.walk.specs.Meet.{meeting_of, place}
-use Rattle.walk.specs.declared.Meeting.{Meeting}
-use Rattle.walk.specs.declared.Meeting.TheVariants.{At, Nowhere}
+use Rattle.walk.specs.Meet.{Meeting, At, Nowhere, meeting_of, place}
 
 module _ (xs ys : List ℕ) {r : Meeting} (e : r ≡ meeting_of (meet_of xs ys)) where
   -- the place found is that of the first shared code

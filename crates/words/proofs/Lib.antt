@@ -4,7 +4,6 @@
 -- Tail      a lent tail of a slice, and what is written there
 -- Tests     the branches of a rule, for `search tests`
 -- Words     flat records, and a buffer that holds words with zeros behind them
--- Zeroed    the loop that zeroes
 -- OneAnswer what 'one answer only' means of a contract
 -- Only      one answer only
 pub mod Lists
@@ -13,6 +12,5 @@ pub mod Split
 pub mod Tail
 pub mod Tests
 pub mod Words
-pub mod Zeroed
 pub mod OneAnswer
 pub mod Only

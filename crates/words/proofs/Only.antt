@@ -1,18 +1,15 @@
--- One answer only: two results or buffers that meet a contract are equal. `Post` is the contract itself, as it is read from the code.
+-- One answer only: two buffers that meet a contract are equal, whatever numbers they are made of.
+-- `Post` is the contract itself, as it is read from the code.
 use mathlib.Core.Path.{sym, ◌∙◌}
+use mir.Syntax.{Dict}
+use denote.RattleType.{RattleType}
+use denote.Param.Laws.{Laws, IsCopy}
+use Rattle.std.specs.declared.clone.Clone as clone
+use Rattle.words.specs.declared.Zero as zero
 use Rattle.words.proofs.OneAnswer.{OneAnswer}
-use Rattle.words.proofs.zero_words.Kinds as zero_words_kinds
-use Rattle.words.proofs.zero_words.Reads as zero_words
-use Rattle.words.proofs.zero_bytes.Kinds as zero_bytes_kinds
-use Rattle.words.proofs.zero_bytes.Reads as zero_bytes
-use Rattle.words.proofs.smaller.Kinds as smaller_kinds
-use Rattle.words.proofs.smaller.Reads as smaller
+use Rattle.words.proofs.zero_from.Kinds as zero_from_kinds
+use Rattle.words.proofs.zero_from.Reads as zero_from
 
-pub zero_words_only : OneAnswer 1 zero_words_kinds.ps zero_words_kinds.r zero_words.Post (λ κs u x. x.0.now)
-zero_words_only κs a u v x y p q = p ∙ sym q
-
-pub zero_bytes_only : OneAnswer 1 zero_bytes_kinds.ps zero_bytes_kinds.r zero_bytes.Post (λ κs u x. x.0.now)
-zero_bytes_only κs a u v x y p q = p ∙ sym q
-
-pub smaller_only : OneAnswer 0 smaller_kinds.ps smaller_kinds.r smaller.Post (λ κs u x. u)
-smaller_only κs a u v x y p q = p ∙ sym q
+pub zero_from_only : (T : RattleType) (L : Laws T) (C : IsCopy T) (g : zero.Ghosts T.Denot) (d : Dict) (h : clone.Ghosts T.Denot) (e : Dict)
+    → OneAnswer 2 (zero_from_kinds.ps T L C) (zero_from_kinds.r T L C) (zero_from.Post T L C g d h e) (λ κs u x. x.0.now)
+zero_from_only T L C g d h e κs a u v x y p q = p ∙ sym q

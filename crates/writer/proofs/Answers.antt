@@ -7,15 +7,15 @@ use borrow.Author.Tests.{lt-ltb, le-ltb}
 use lib.ListN.{length}
 use Rattle.words.specs.Words.{padded}
 use Rattle.words.proofs.Split.{by_le}
-use Rattle.tables.specs.declared.Check.{Check}
-use Rattle.tables.specs.declared.Check.TheVariants as check
+use Rattle.tables.specs.Check.{Check}
+use Rattle.tables.specs.Check as check
 use Rattle.site.specs.Tables.{site_of}
 use Rattle.sheet.specs.Text.{sheet_text}
 use Rattle.tables.specs.Checks.{tables_check}
 use Rattle.tables.specs.Refusals.{Unbroken}
 use Rattle.tables.proofs.Refusals.{refused_exactly, fine_exactly, breaks_number}
-use Rattle.writer.specs.declared.Writing.{Writing}
-use Rattle.writer.specs.declared.Writing.TheVariants.{Written, Refused}
+use Rattle.writer.specs.Writes.{Writing}
+use Rattle.writer.specs.Writes.{Written, Refused}
 use Rattle.writer.specs.Writes.{writing_number, writing_values, WritingTells, answer_by, text_by}
 use Rattle.writer.specs.Calls.{Writes}
 use Rattle.writer.specs.Refusals.{WriteCause, tables, text_room}

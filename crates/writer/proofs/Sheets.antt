@@ -11,14 +11,12 @@ use Rattle.tables.specs.Sound.{Sound}
 use Rattle.tables.proofs.Sound.{contexts_are}
 use Rattle.sheet.specs.Text.{k_key, contexts_key, c_key, line_text, context_text, number_text, lines_text, sheet_text}
 use Rattle.pen.specs.declared.Pen.{Pen}
-use Rattle.pen.specs.declared.Penned.{Penned}
-use Rattle.pen.specs.declared.Penned.TheVariants.{Full}
 use Rattle.pen.specs.declared.Twice.{Twice}
-use Rattle.pen.specs.Lines.{Fits, Lined, LinedTwice, front_pen}
-use Rattle.pen.specs.Added.{Added}
+use Rattle.pen.specs.Lines.{Fits, LinedTwice, front_pen}
+use Rattle.pen.specs.Added.{Penned, On, Full, Added, LinedIf}
 use Rattle.pen.proofs.Grown.{Grows}
-use Rattle.pen.proofs.Past.{line_some}
-use Rattle.pen.proofs.Added.{added_stop, added_then}
+use Rattle.pen.proofs.Past.{line_some, Grown}
+use Rattle.pen.proofs.Added.{added_stop, added_then, line_added, grown_next, grown_full}
 use Rattle.pen.proofs.InTurn.{first_full, second_full, both_on}
 
 -- the lines grow by that of a context
@@ -39,41 +37,43 @@ module _ {os cs : List ℕ} (s : Sound os cs) where
   pub one_less : length os - 1 ≡ length (site_of os cs)
   one_less = omega (arith, contexts_are s)
 
-  module _ (i : ℕ) where
-    -- the contexts are those of the offsets
-    pub in_site : i + 1 < length os → i < length (site_of os cs)
-    in_site h = omega (arith, contexts_are s)
+  -- so their number fits a word
+  pub contexts_few : length (site_of os cs) ≤ 256
+  contexts_few = omega (arith, contexts_are s, s.few)
 
-    -- and no more
-    pub site_done : length os ≤ i + 1 → length (site_of os cs) ≤ i
-    site_done h = omega (arith, contexts_are s)
+-- the lines of the contexts before i, and then the line of the context i, if it fits
+module _ (site : List (List ℕ)) (i : ℕ) {old mid now c : List ℕ} {p q : Pen} {r : Penned} (f : Fits p old) (g : Grown lines_text site old mid p q i) (h : i < length site) (e : c ≡ codes_of site i) (w : LinedIf (line_text c_key c) mid now q r) where
+  added : Added (context_text (get_or site i [])) mid now q r
+  added = rw e at (line_added g.past.fits w)
 
-    -- the line of the context that was handed over
-    pub context_lined : {c old now : List ℕ} {p q : Pen} → c ≡ codes_of (site_of os cs) i → Lined (line_text c_key c) old now p q → Lined (context_text (get_or (site_of os cs) i [])) old now p q
-    context_lined e w = rw e at w
+  pub context_more : {z : Pen} → r ≡ On z → Grown lines_text site old now p z (i + 1)
+  context_more = grown_next lines_grow [] f g h added
+
+  pub context_full : r ≡ Full → Added (lines_text site) old now p Full
+  context_full = grown_full lines_grow [] f g h added
 
 -- a pen at the text's first byte
 pub at_front : (text : List ℕ) → Fits (front_pen text) text
 at_front text = zero-add (length text)
 
 -- the sheet behind its two head lines
-module _ (k : ℕ) {os cs : List ℕ} (s : Sound os cs) {old mid : List ℕ} {p : Pen} (f : Fits p old) {t : Twice} (v : LinedTwice (number_text k_key k) (number_text contexts_key (length os - 1)) old mid p t) where
+module _ (k : ℕ) (site : List (List ℕ)) {old mid : List ℕ} {p : Pen} (f : Fits p old) {n : ℕ} (q : n ≡ length site) {t : Twice} (v : LinedTwice (number_text k_key k) (number_text contexts_key n) old mid p t) where
   -- the head lines, with the number of contexts
-  heads : LinedTwice (number_text k_key k) (number_text contexts_key (length (site_of os cs))) old mid p t
-  heads = rw (one_less s) at v
+  heads : LinedTwice (number_text k_key k) (number_text contexts_key (length site)) old mid p t
+  heads = rw q at v
 
   -- the `k=` line has no room
-  pub k_full : t.between ≡ p.place → Added (sheet_text k (site_of os cs)) old mid p Full
+  pub k_full : t.between ≡ p.place → Added (sheet_text k site) old mid p Full
   unfolding sheet_text
-  k_full e = added_stop (first_full heads f (line_some k_key (k ∷ [])) e) (lines_text (site_of os cs)) refl
+  k_full e = added_stop (first_full heads f (line_some k_key (k ∷ [])) e) (lines_text site) refl
 
   module _ (m : t.between ≡ p.place → ⊥) where
     -- the `contexts=` line has none
-    pub contexts_full : t.pen.place ≡ t.between → Added (sheet_text k (site_of os cs)) old mid p Full
+    pub contexts_full : t.pen.place ≡ t.between → Added (sheet_text k site) old mid p Full
     unfolding sheet_text
-    contexts_full e = added_stop (second_full heads f m (line_some contexts_key (length (site_of os cs) ∷ [])) e) (lines_text (site_of os cs)) refl
+    contexts_full e = added_stop (second_full heads f m (line_some contexts_key (length site ∷ [])) e) (lines_text site) refl
 
     -- the contexts' lines behind both
-    pub sheet_done : (t.pen.place ≡ t.between → ⊥) → {now : List ℕ} {r : Penned} → Added (lines_text (site_of os cs)) mid now t.pen r → Added (sheet_text k (site_of os cs)) old now p r
+    pub sheet_done : (t.pen.place ≡ t.between → ⊥) → {now : List ℕ} {r : Penned} → Added (lines_text site) mid now t.pen r → Added (sheet_text k site) old now p r
     unfolding sheet_text
     sheet_done e u = added_then (both_on heads f m e) f refl u

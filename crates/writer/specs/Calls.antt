@@ -3,7 +3,7 @@ use Rattle.std.specs.Prelude.{◌≡◌, List, ℕ, length}
 use Rattle.site.specs.Tables.{site_of}
 use Rattle.sheet.specs.Text.{sheet_text}
 use Rattle.tables.specs.Checks.{tables_check}
-use Rattle.writer.specs.declared.Writing.{Writing}
+use Rattle.writer.specs.Writes.{Writing}
 use Rattle.writer.specs.Writes.{answer_by, text_by}
 
 -- `write` of k and tables into a lent text: the answer, and the text afterwards

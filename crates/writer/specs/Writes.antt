@@ -1,10 +1,19 @@
 -- The call's answer, and every byte of the text that it leaves.
-use Rattle.std.specs.Prelude.{cond, List, [], ◌∷◌, ◌≡◌, ℕ, ltb, length}
+use Rattle.std.specs.Prelude.{cond, List, [], ◌∷◌, ◌≡◌, ℕ, ltb, length, Result}
+use Rattle.refusal.specs.declared.Refusal.{Refusal}
+use Rattle.refusal.specs.Numbers.{said}
 use Rattle.words.specs.Words.{padded}
-use Rattle.tables.specs.declared.Check.{Check}
-use Rattle.tables.specs.declared.Check.TheVariants as check
-use Rattle.writer.specs.declared.Writing.{Writing}
-use Rattle.writer.specs.declared.Writing.TheVariants.{Written, Refused}
+use Rattle.tables.specs.Check.{Check}
+use Rattle.tables.specs.Check as check
+
+-- what the call answers in the paper's words: how long the sheet is, or the number of a rule and a place
+pub data Writing : Type 0 where
+  Written : ℕ → Writing
+  Refused : ℕ → ℕ → Writing
+
+-- what a result says as an answer
+abbrev pub writing_said : Result ℕ Refusal → Writing
+writing_said r = said Written Refused r
 
 -- the number of an answer: that of its refusal, and 0 where the sheet was written
 abbrev pub writing_number : Writing → ℕ

@@ -2,8 +2,5 @@
 use Rattle.agenda.proofs.Built.{Building}
 use Rattle.agenda.proofs.build_nodes.Given as goal
 
-abbrev pub invariant-loop-u : goal.invariant-loop-u
-invariant-loop-u l = Building l.offsets l.codes l.top l.initial.work l.work l.u
-
-abbrev pub decreases-loop-u : goal.decreases-loop-u
-decreases-loop-u l = l.u
+abbrev pub invariant-loop-t : goal.invariant-loop-t
+invariant-loop-t l = Building l.top l.initial.work l.work l.t

@@ -1,11 +1,7 @@
--- The loop of `agenda::count_codes`, which counts one code a turn: `Tallying`.
-use Prim.Native.Nat.{◌-◌}
-use lib.ListN.{length}
-use Rattle.agenda.proofs.Prepared.{Tallying}
+-- The loop of `agenda::count_codes`, which counts one code a turn.
+use Rattle.std.proofs.Common.{take}
+use Rattle.agenda.specs.Agenda.{SummedTo}
 use Rattle.agenda.proofs.count_codes.Given as goal
 
-abbrev pub invariant-loop-i : goal.invariant-loop-i
-invariant-loop-i l = Tallying l.offsets l.codes l.initial.work l.work l.i
-
-abbrev pub decreases-loop-i : goal.decreases-loop-i
-decreases-loop-i l = length l.codes - l.i
+abbrev pub invariant-loop-code : goal.invariant-loop-code
+invariant-loop-code l = SummedTo 0 (take l.code-index l.tables.codes.now) l.work

@@ -15,5 +15,5 @@ shift-requires c = let r = c.requires in omega (arith, rank_within _ _ _ _ _ r.f
 pub returns : goal.returns
 returns c =
     let r = c.requires in
-    let t = one_listed _ _ _ _ _ r.found_le_k.0 r.k_in_bounds r.ordered c.find_rank-p.ensures c.if-p-k.false c.smaller-keep.ensures c.shift.ensures c.put_entry.ensures in
+    let t = one_listed _ _ _ _ _ r.found_le_k.0 r.k_in_bounds r.ordered c.find_rank-p.ensures c.if-p-k.false c.min-keep.ensures c.shift.ensures c.put_entry.ensures in
     record { value = t.0; list_after = t.1.0; inserts = t.1.1.0; ordered_2 = t.1.1.1 }

@@ -1,16 +1,13 @@
 -- `heat::cell_of` meets its contract: what the checks refuse, or the cell.
-use Rattle.std.proofs.Common.{sym, ◌∙◌}
-use Rattle.heat.proofs.Accepting.{accepted, cell_refused, cell_shown}
+use Rattle.std.proofs.Common.{◌∙◌}
+use Rattle.refusal.proofs.Passed.{passed}
+use Rattle.heat.specs.CellAnswer.{Refused}
+use Rattle.heat.proofs.Accepting.{cell_refused, cell_shown}
 use Rattle.heat.proofs.cell_of.Goals as goal
 
-pub returns-in-Refused : goal.returns-in-Refused
-returns-in-Refused c = cell_refused _ _ _ _ _ c.check_cell-checked.ensures c.in-Refused.is
-
-pub cell_in-requires-clause-entries_in_bounds : goal.cell_in-requires-clause-entries_in_bounds
-cell_in-requires-clause-entries_in_bounds c = (accepted _ _ _ _ _ (sym c.check_cell-checked.ensures ∙ c.in_default.is)).room
-
-pub cell_in-requires-clause-positive : goal.cell_in-requires-clause-positive
-cell_in-requires-clause-positive c = (accepted _ _ _ _ _ (sym c.check_cell-checked.ensures ∙ c.in_default.is)).some
+pub returns-in_err-listed : goal.returns-in_err-listed
+returns-in_err-listed c =
+    passed _ Refused _ c.from_residual.result c.from_residual.ensures.1 ∙ cell_refused _ _ _ _ _ c.in_err-listed.ensures.value
 
 pub returns : goal.returns
-returns c = cell_shown _ _ _ _ _ c.check_cell-checked.ensures c.in_default.is c.cell_in.ensures
+returns c = let h = c.in_ok-listed.ensures in cell_shown _ _ _ _ _ h.value (cc (c.cell_in.ensures, h.listed.0, h.listed.1))

@@ -1,9 +1,12 @@
 -- `host::sazamkhri_listing`: the library's answer, as one number.
-use Rattle.host.proofs.Hosted.{hosted_text, hosted_refusal}
+use Rattle.std.proofs.Common.{refl}
+use Rattle.host.proofs.Hosted.{host_value_by, hosted}
 use Rattle.host.proofs.sazamkhri_listing.Goals as goal
 
-pub returns-in-Text : goal.returns-in-Text
-returns-in-Text c = hosted_text c.list_sheet-r.ensures c.in-Text.is
+pub returns-in-Ok : goal.returns-in-Ok
+unfolding host_value_by
+returns-in-Ok c = hosted c.in-Ok.ensures refl
 
-pub returns-in-Refused : goal.returns-in-Refused
-returns-in-Refused c = hosted_refusal c.list_sheet-r.ensures c.in-Refused.is
+pub returns-in-Err : goal.returns-in-Err
+unfolding host_value_by
+returns-in-Err c = hosted c.in-Err.ensures c.refused.ensures

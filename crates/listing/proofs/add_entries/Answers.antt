@@ -1,17 +1,22 @@
 -- `listing::add_entries`: one line more, or no room for it.
+use Rattle.std.proofs.Common.{length-append}
 use Rattle.listing.proofs.Adding.{rows_start, rows_next, rows_full, rows_end}
 use Rattle.listing.proofs.add_entries.Goals as goal
 
-pub loop-i-init : goal.loop-i-init
-loop-i-init c = rows_start _ _ c.requires.fits
+pub loop-entry-init : goal.loop-entry-init
+loop-entry-init c =
+    let parts = c.chunks_exact-entry-items.ensures in
+    rw c.into_iter-entry-iterator.ensures.into_iter_gives (rows_start _ parts.rest parts.size c.requires)
 
-pub returns-then-next-place : goal.returns-then-next-place
-returns-then-next-place c =
-    rows_full c.requires.fits c.loop-i.invariant c.requires.found_in_bounds c.loop-i-test.true c.line_by-q.ensures c.line_by-q.auto.text c.if-next-place.true
+pub returns-in_err-pen : goal.returns-in_err-pen
+returns-in_err-pen c =
+    let part = c.in-Some.ensures.steps.1 in
+    rw c.from_residual.ensures (rows_full c.requires c.loop-entry.invariant _ _ part.0 part.1 c.line_if.ensures c.in_err-pen.was)
 
-pub loop-i-preserved : goal.loop-i-preserved
-loop-i-preserved c =
-    rows_next c.requires.fits c.loop-i.invariant c.requires.found_in_bounds c.loop-i-test.true c.line_by-q.ensures c.if-next-place.false
+pub loop-entry-preserved : goal.loop-entry-preserved
+loop-entry-preserved c =
+    let steps = c.in-Some.ensures.steps in
+    rows_next c.requires c.loop-entry.invariant _ _ steps.1.0 steps.1.1 c.line_if.ensures steps.0 (length-append _ _) c.in_ok-pen.was
 
 pub returns : goal.returns
-returns c = rows_end c.requires.fits c.loop-i.invariant c.loop-i-test.false
+returns c = rows_end c.requires c.loop-entry.invariant c.in-None.ensures.steps.1.0

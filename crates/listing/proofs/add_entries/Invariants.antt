@@ -1,10 +1,7 @@
--- The loop of `listing::add_entries`: `Rows`.
-use Rattle.std.proofs.Common.{◌-◌}
+-- The loop of `listing::add_entries`: a line for each entry so far.
+use Rattle.std.proofs.Common.{length}
 use Rattle.listing.proofs.Adding.{Rows}
 use Rattle.listing.proofs.add_entries.Given as goal
 
-abbrev pub invariant-loop-i : goal.invariant-loop-i
-invariant-loop-i l = Rows l.list l.n l.initial.text l.text l.initial.p l.p l.i
-
-abbrev pub decreases-loop-i : goal.decreases-loop-i
-decreases-loop-i l = l.n - l.i
+abbrev pub invariant-loop-entry : goal.invariant-loop-entry
+invariant-loop-entry l = Rows l.list l.entry-iterator.rest.now l.entry-iterator.size (length l.yielded) l.initial.text l.text l.initial.pen l.pen

@@ -1,16 +1,16 @@
 -- `listing::print_sheet`: every listing fits its text, and so does every refusal.
-use Rattle.std.proofs.Common.{arith}
+use Rattle.std.proofs.Common.{refl, arith}
 use Rattle.listing.proofs.Printing.{refusal_fits, refusal_zero, prints_listing, prints_refusal}
 use Rattle.listing.proofs.print_sheet.Goals as goal
 
-pub overflow_cast-place : goal.overflow_cast-place
-overflow_cast-place c = omega (arith, (refusal_fits c.list_sheet-r.ensures (search) c.in-Refused.is).place)
+pub write_refusal-requires-clause-zero : goal.write_refusal-requires-clause-zero
+write_refusal-requires-clause-zero c = refusal_zero c.in-Err.ensures (search) refl
 
-pub write_refusal-requires : goal.write_refusal-requires
-write_refusal-requires c = refusal_zero c.list_sheet-r.ensures (search) c.in-Refused.is
+pub write_refusal-requires-clause-place_short : goal.write_refusal-requires-clause-place_short
+write_refusal-requires-clause-place_short c = omega (arith, (refusal_fits c.in-Err.ensures (search) refl).place)
 
-pub returns-in-Text : goal.returns-in-Text
-returns-in-Text c = prints_listing c.list_sheet-r.ensures (search) c.in-Text.is
+pub returns-in-Ok : goal.returns-in-Ok
+returns-in-Ok c = prints_listing c.in-Ok.ensures (search) refl
 
-pub returns-in-Refused : goal.returns-in-Refused
-returns-in-Refused c = prints_refusal c.list_sheet-r.ensures (search) c.in-Refused.is c.write_refusal.ensures
+pub returns-in-Err : goal.returns-in-Err
+returns-in-Err c = prints_refusal c.in-Err.ensures (search) refl c.write_refusal.ensures

@@ -5,9 +5,10 @@ use Rattle.listing.specs.Calls.{page_room}
 use Rattle.listing.proofs.Printing.{page_long, refused_short, line_written}
 use Rattle.listing.proofs.write_refusal.Goals as goal
 
-pub line_by-p-requires : goal.line_by-p-requires
-line_by-p-requires c = sym (page_long c.requires)
+pub line_by-requires : goal.line_by-requires
+line_by-requires c = sym (page_long c.requires.zero)
 
 pub returns : goal.returns
 unfolding refused_text
-returns c = line_written page_room c.requires (refused_short c.args.number c.args.place (omega arith) (omega arith)) c.line_by-p.ensures
+returns c =
+    rw (← c.number.ensures) (line_written page_room c.requires.zero (refused_short c.number.result c.args.refusal.place (omega arith) c.requires.place_short) c.line_by.ensures)

@@ -7,13 +7,13 @@ use Rattle.search.proofs.Areas.{marks_long, marks_besides, marks_written, contex
 use Rattle.search.proofs.lay_marks.Goals as goal
 
 pub mark-requires : goal.mark-requires
-mark-requires c = (marks_long c.args.work.now c.requires.c_in_bounds.1, context_small c.requires.sound c.args.c.0 c.requires.c_in_bounds.0 c.context-xs.ensures)
+mark-requires c = (marks_long c.args.work.now c.requires.wide, context_small c.args.tables.sound c.args.c.0 c.requires.inside c.context.ensures)
 
 pub returns : goal.returns
 returns c =
     let w = c.args.work.now in
-    let room = c.requires.c_in_bounds.1 in
+    let room = c.requires.wide in
     let m = c.mark.ensures in
     let out = c.mark.new.marks in
     let long = ap length m ∙ marks_length code_words _ in
-    record { remarked = marks_besides w room out long; work_after = marks_written w room out long ∙ m ∙ ap (marks_of code_words) c.context-xs.ensures }
+    record { remarked = marks_besides w room out long; work_after = marks_written w room out long ∙ m ∙ ap (marks_of code_words) c.context.ensures }

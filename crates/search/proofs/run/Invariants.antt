@@ -5,7 +5,7 @@ use Prim.Native.Nat.{◌-◌}
 use Rattle.search.proofs.run.Given as goal
 
 abbrev pub invariant-events : goal.invariant-events
-invariant-events l = Searching l.offsets l.codes l.k l.events l.initial.list l.initial.work l.initial.trail l.list l.work l.trail l.counts
+invariant-events l = Searching l.tables.offsets.now l.tables.codes.now l.k l.events l.initial.list l.initial.work l.initial.trail l.list l.work l.trail l.counts
 
 abbrev pub decreases-events : goal.decreases-events
-decreases-events l = length l.codes - l.events
+decreases-events l = length l.tables.codes.now - l.events

@@ -6,24 +6,18 @@ use Rattle.agenda.specs.Next.{event_is}
 use Rattle.search.proofs.Ceilings.{stop_told}
 use Rattle.search.proofs.stops.Goals as goal
 
-pub context-part-requires : goal.context-part-requires
-context-part-requires c = let u = c.requires.sound in (u.0, omega (arith, contexts_are u.0, u.1.inside))
+pub context-requires : goal.context-requires
+context-requires c = omega (arith, contexts_are c.args.tables.sound, c.requires.occurs.inside)
 
-pub overflow_sub-ceiling : goal.overflow_sub-ceiling
-overflow_sub-ceiling c = omega (arith, c.requires.sound.1.to_size, ap length c.context-part.ensures)
+pub overflow_cast-size : goal.overflow_cast-size
+overflow_cast-size c =
+    let s = c.args.tables.sound in
+    omega (arith, size_small s c.args.event.context.0 (omega (arith, contexts_are s, c.requires.occurs.inside)), ap length c.context.ensures)
 
-pub overflow_cast-ceiling : goal.overflow_cast-ceiling
-overflow_cast-ceiling c =
-    let u = c.requires.sound in
-    let small = size_small u.0 c.args.c.0 (omega (arith, contexts_are u.0, u.1.inside)) in
-    omega (arith, small, u.1.from_one, u.1.to_size, ap length c.context-part.ensures)
-
-pub overflow_cast-ceiling-2 : goal.overflow_cast-ceiling-2
-overflow_cast-ceiling-2 c =
-    let u = c.requires.sound in
-    omega (arith, size_small u.0 c.args.c.0 (omega (arith, contexts_are u.0, u.1.inside)), ap length c.context-part.ensures)
+pub overflow_add-ceiling : goal.overflow_add-ceiling
+overflow_add-ceiling c =
+    let s = c.args.tables.sound in
+    omega (arith, size_small s c.args.event.context.0 (omega (arith, contexts_are s, c.requires.occurs.inside)), ap length c.context.ensures)
 
 pub returns : goal.returns
-returns c =
-    let u = c.requires.sound in
-    stop_told (sound_rises u.0) (event_is _ _) u.1 _ _ _ c.context-part.ensures c.below_last.ensures
+returns c = stop_told (sound_rises c.args.tables.sound) (event_is _ _) c.requires.occurs _ _ _ c.context.ensures c.below_last.ensures

@@ -1,10 +1,6 @@
 -- The loop of `tables::check_codes`, from one context to the next: `Parted`.
-use Rattle.std.proofs.Common.{length, ◌-◌}
 use Rattle.tables.proofs.Parts.{Parted}
 use Rattle.tables.proofs.check_codes.Given as goal
 
 abbrev pub invariant-loop-i : goal.invariant-loop-i
 invariant-loop-i l = Parted l.offsets l.codes l.i
-
-abbrev pub decreases-loop-i : goal.decreases-loop-i
-decreases-loop-i l = length l.offsets - l.i

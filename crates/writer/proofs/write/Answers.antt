@@ -1,20 +1,18 @@
 -- Refused by the checks, without room, or written.
-use Rattle.std.proofs.Common.{sym, ◌∙◌}
-use Rattle.tables.proofs.Checks.{accepted}
+use Rattle.refusal.proofs.Passed.{passed}
+use Rattle.writer.specs.Writes.{Written, Refused}
 use Rattle.writer.proofs.Called.{write_refused, write_full, written_fits, write_done}
 use Rattle.writer.proofs.write.Goals as goal
 
-pub returns-in-Refused : goal.returns-in-Refused
-returns-in-Refused c = write_refused _ _ _ _ c.check_tables-c.ensures c.in-Refused.is
+pub returns-in_err-tables : goal.returns-in_err-tables
+returns-in_err-tables c = rw (passed Written Refused _ c.from_residual.result c.from_residual.ensures.1) (write_refused _ _ _ _ c.in_err-tables.ensures.value)
 
-pub sheet_lines-r-requires : goal.sheet_lines-r-requires
-sheet_lines-r-requires c = (accepted _ _ _ (sym c.check_tables-c.ensures ∙ c.in_default.is)).sound
+pub returns-in_default : goal.returns-in_default
+returns-in_default c =
+    rw (c.at.ensures.rule, c.at.ensures.place) (write_full _ _ _ _ c.in_ok-tables.ensures.value c.in_ok-tables.ensures.accepted c.sheet_lines.ensures c.in_default.is c.zero_from.ensures)
 
-pub returns-in_default-r : goal.returns-in_default-r
-returns-in_default-r c = write_full _ _ _ _ c.check_tables-c.ensures c.in_default.is c.sheet_lines-r.ensures c.in_default-r.is c.zero_bytes.ensures
-
-pub zero_bytes-requires-2 : goal.zero_bytes-requires-2
-zero_bytes-requires-2 c = written_fits c.sheet_lines-r.ensures c.in-On.is
+pub zero_from-requires-2 : goal.zero_from-requires-2
+zero_from-requires-2 c = written_fits c.sheet_lines.ensures c.in-Some.is
 
 pub returns : goal.returns
-returns c = write_done _ _ _ _ c.check_tables-c.ensures c.in_default.is c.sheet_lines-r.ensures c.in-On.is c.zero_bytes-2.ensures
+returns c = write_done _ _ _ _ c.in_ok-tables.ensures.value c.in_ok-tables.ensures.accepted c.sheet_lines.ensures c.in-Some.is c.zero_from-2.ensures

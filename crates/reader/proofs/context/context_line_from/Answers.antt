@@ -1,13 +1,9 @@
--- `reader::context::context_line_from`: the text of the line is refused, or its end stands behind it.
-use Rattle.reader.proofs.Contexts.{context_passed, context_ended}
+-- `reader::context::context_line_from`: the line's end stands behind its text, whatever that has for a reading.
+use Rattle.reader.proofs.Contexts.{context_over}
 use Rattle.reader.proofs.context.context_line_from.Goals as goal
 
-pub returns-in_default-clause-value : goal.returns-in_default-clause-value
-returns-in_default-clause-value c =
-    (context_passed _ _ _ _ c.requires.at_in_bounds c.line_from-l.ensures.0
-    (c.context_in-r.ensures.value, c.context_in-r.ensures.stored) c.in_default.is).0
-
-pub returns-clause-value : goal.returns-clause-value
-returns-clause-value c =
-    (context_ended _ _ _ _ c.requires.at_in_bounds c.line_from-l.ensures.0
-    (c.context_in-r.ensures.value, c.context_in-r.ensures.stored) c.in-Read.is c.line_end.ensures).0
+pub returns : goal.returns
+returns c =
+    let line = context_over c.args.sheet.now c.args.at c.args.used c.args.codes.now c.requires.at_in_bounds c.line_from.ensures.0
+    (c.context_in.ensures.value, c.context_in.ensures.stored) c.line_end.ensures in
+    record { value = line.0; stored = line.1 }

@@ -1,7 +1,0 @@
--- `search::next_at`: the part lent to the agenda is as long as the agenda.
-use Rattle.std.proofs.Common.{sym}
-use Rattle.search.proofs.Areas.{agenda_long}
-use Rattle.search.proofs.next_at.Goals as goal
-
-pub slice_bounds-part-end : goal.slice_bounds-part-end
-slice_bounds-part-end c = sym (agenda_long c.args.work.now c.requires.agenda_in.0)
