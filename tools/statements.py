@@ -2,7 +2,9 @@
 """Compares what specs/ and proofs/ of every crate declare with a commit: python3 tools/statements.py COMMIT.
 
 Prints the names that are gone, those that are new, and those whose words changed: of a law its statement, of a
-definition its equations too. Names of the proofs of single functions (proofs/F/..) are left out, as they follow the code.
+definition its equations too. A name is looked for in its own file, and then in the others of its crate's specs/ or
+proofs/. Names of the proofs of single functions (proofs/F/..) are left out, as they follow the code; so is what the
+laws of a module have for premises together.
 """
 import re
 import subprocess
@@ -11,7 +13,7 @@ from pathlib import Path
 
 ROOT = Path(__file__).resolve().parent.parent
 HEAD = re.compile(r'^( *)((?:pub |abbrev |unfoldable )*)((?:data|record) )?([^\s:(){}]+)(?: [({][^\n=]*)? : ', re.M)
-WORDS = {'use', 'module', 'let', 'in', 'where', 'unfolding', 'infixr', 'infixl', 'infix', 'ruleset', 'axiom', 'record', 'data'}
+WORDS = {'→', '×', 'use', 'module', 'let', 'in', 'where', 'unfolding', 'infixr', 'infixl', 'infix', 'ruleset', 'axiom', 'record', 'data'}
 
 
 def declared(text):
@@ -53,27 +55,31 @@ def main():
     keep = re.compile(r'crates/[^/]+/(specs|proofs)/[^/]+\.antt$')
     before, after = {}, {}
     for path in filter(keep.match, names):
-        for n, s in declared(old(commit, path)).items():
-            before.setdefault((path.split('/')[1], path.split('/')[2], n), []).append((path.split('/')[3], s))
+        for name, says in declared(old(commit, path)).items():
+            before[(*path.split('/')[1:4], name)] = says
     for file in sorted(ROOT.glob('crates/*/*/*.antt')):
         path = str(file.relative_to(ROOT))
         if keep.match(path):
-            for n, s in declared(file.read_text()).items():
-                after.setdefault((path.split('/')[1], path.split('/')[2], n), []).append((path.split('/')[3], s))
+            for name, says in declared(file.read_text(encoding='utf-8')).items():
+                after[(*path.split('/')[1:4], name)] = says
+    now = {key: key for key in before if key in after}
+    fresh = [key for key in sorted(after) if key not in before]
+    for key in sorted(before):
+        moved = [k for k in fresh if k[:2] == key[:2] and k[3] == key[3]]
+        if key not in now and moved:
+            now[key] = moved[0]
+            fresh.remove(moved[0])
     same = 0
     for key in sorted(before):
-        if key not in after:
-            print(f'GONE    {"/".join(key[:2])}/{before[key][0][0]}: {key[2]}\n          {before[key][0][1]}')
-        elif sorted(s for _, s in before[key]) != sorted(s for _, s in after[key]):
-            print(f'CHANGED {"/".join(key[:2])}/{after[key][0][0]}: {key[2]}')
-            for (_, a), (_, b) in zip(before[key], after[key]):
-                if a != b:
-                    print(f'        - {a}\n        + {b}')
+        crate, part, file, name = key
+        if key not in now:
+            print(f'GONE    {crate}/{part}/{file}: {name}\n          {before[key]}')
+        elif before[key] != after[now[key]]:
+            print(f'CHANGED {crate}/{part}/{now[key][2]}: {name}\n        - {before[key]}\n        + {after[now[key]]}')
         else:
             same += 1
-    for key in sorted(after):
-        if key not in before:
-            print(f'NEW     {"/".join(key[:2])}/{after[key][0][0]}: {key[2]}\n          {after[key][0][1]}')
+    for crate, part, file, name in fresh:
+        print(f'NEW     {crate}/{part}/{file}: {name}\n          {after[crate, part, file, name]}')
     print(f'{len(before)} before, {len(after)} now, {same} the same')
 
 

@@ -3,6 +3,7 @@
 use mathlib.Core.Bool.{true, false}
 use mathlib.Core.Path.{◌≡◌, refl, sym, ap, ap₂, ◌∙◌}
 use Prim.Native.Nat.{ℕ, ◌+◌, ◌*◌, ◌/◌, ◌%◌, ◌≤◌, ◌<◌}
+use native.Mathlib.Nat.{mul-le-mul_right}
 use native.Mathlib.Omega.{arith}
 use borrow.Author.Tests.{lt-ltb, le-ltb, eq-eqb, ltb-true, ltb-false}
 use Rattle.std.specs.Int.Bits.{bit_xor, xor_add_and}
@@ -100,6 +101,11 @@ module _ (f : ℕ → Fraction) where
       let m : t % 2 ≡ 1 = omega arith in
       let b : bit_xor t 1 ≡ 2 * up = omega (arith, beside_is t) in
       g ∙ ap (λ (i : ℕ). ahead_by i x y) m ∙ ap₂ (ahead_by 1) (e ∙ ap (λ (i : ℕ). contender_at f i) z) (k ∙ ap (λ (i : ℕ). contender_at f i) b) ∙ sym (above_odd up (omega arith) (omega arith)))
+
+-- ---- the product of two numbers of 16 bits, and one more, fits into 32
+
+pub one_more : (x y m : ℕ) → x < 65536 → y < 65536 → m ≤ 1 → x * y + m < 4294967296
+one_more x y m h k l = let a : x ≤ 65535 = omega arith in omega (arith, mul-le-mul_right y a, k, l)
 
 -- the laws of `play` and `play_on`
 pub ruleset playing = (beside_is, played, played_on)

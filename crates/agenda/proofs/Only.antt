@@ -36,19 +36,19 @@ posted_same None (Some b) e = cc e
 posted_same (Some a) None e = cc e
 posted_same (Some a) (Some b) e = cc e
 
-pub next_event_only : OneAnswer 2 next_event_kinds.ps next_event_kinds.r next_event.Post (λ κs u x. u)
+pub next_event_only : OneAnswer 3 next_event_kinds.ps next_event_kinds.r next_event.Post (λ κs u x. u)
 next_event_only κs a u v x y p q = next_same u v (p ∙ sym q)
 
-pub posted_at_only : OneAnswer 2 posted_at_kinds.ps posted_at_kinds.r posted_at.Post (λ κs u x. u)
+pub posted_at_only : OneAnswer 3 posted_at_kinds.ps posted_at_kinds.r posted_at.Post (λ κs u x. u)
 posted_at_only κs a u v x y p q = posted_same u v (p ∙ sym q)
 
 -- the work area at exit
-pub note_event_only : OneAnswer 2 note_event_kinds.ps note_event_kinds.r note_event.Post (λ κs u x. x.1.0.now)
+pub note_event_only : OneAnswer 3 note_event_kinds.ps note_event_kinds.r note_event.Post (λ κs u x. x.1.0.now)
 note_event_only κs a u v x y p q =
     let site = the_site a.0 in
     p.0.holds ∙ ap (λ (n : ℕ). padded n (agenda_words site (first_events site (a.1.1.0 + 1)))) (p.1 ∙ sym q.1) ∙ sym q.0.holds
 
-pub prepare_only : OneAnswer 2 prepare_kinds.ps prepare_kinds.r prepare.Post (λ κs u x. x.1.0.now)
+pub prepare_only : OneAnswer 3 prepare_kinds.ps prepare_kinds.r prepare.Post (λ κs u x. x.1.0.now)
 prepare_only κs a u v x y p q =
     let site = the_site a.0 in
     p.0.holds ∙ ap (λ (n : ℕ). padded n (agenda_words site (first_events site 0))) (p.1 ∙ sym q.1) ∙ sym q.0.holds

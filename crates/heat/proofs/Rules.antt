@@ -8,7 +8,7 @@ use borrow.Author.Tests.{eq-eqb, ne_eqb, lt-ltb, le-ltb}
 use Rattle.std.proofs.Common.{Option, None, Some}
 use Rattle.words.proofs.Split.{by_eq, by_le}
 use Rattle.refusal.specs.declared.Rule.{Rule}
-use Rattle.refusal.specs.Numbers.{number_of, rule_said}
+use Rattle.refusal.specs.Numbers.{rule_number, rule_said}
 use Rattle.tables.specs.Check.{Refused}
 use Rattle.tables.proofs.Checked.{Checked, none_next, some_here}
 use Rattle.entries.specs.Entries.{width, entry_at}
@@ -56,5 +56,5 @@ module _ (contexts : ℕ) (list : List ℕ) {n i : ℕ} (w : Checked (rule_at co
   pub entry_kept : told ≡ None → Checked (rule_at contexts list) 0 n (i + 1)
   entry_kept f = none_next w h told_at f
 
-  pub entry_broken : {rule : Rule} → told ≡ Some rule → Refused (number_of rule) i ≡ entries_check contexts list n
+  pub entry_broken : {rule : Rule} → told ≡ Some rule → Refused (rule_number rule) i ≡ entries_check contexts list n
   entry_broken f = some_here w h told_at f

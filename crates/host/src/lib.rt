@@ -4,7 +4,7 @@
 #![tactic(auto)]
 
 ghost use Rattle.std.specs.Prelude.{◌≡◌, ◌+◌};
-ghost use Rattle.refusal.specs.Numbers.{number_of};
+ghost use Rattle.refusal.specs.Numbers.{rule_number};
 ghost use Rattle.heat.specs.CellAnswer.{cell_said};
 ghost use Rattle.host.specs.Call.{Hosts, host_cell, HostsCell};
 
@@ -18,7 +18,7 @@ const REFUSED: u64 = 1_000_000;
 
 // 1,000,000 plus the number of a refusal.
 fn refused(refusal: Refusal) -> u64
-    ensures { result ≡ 1000000 + number_of refusal.rule }
+    ensures { result ≡ 1000000 + rule_number refusal.rule }
 {
     REFUSED + u64::from(refusal.number())
 }

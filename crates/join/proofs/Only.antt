@@ -4,7 +4,7 @@ use contract.Lifetimes.{Lfts}
 use denote.Triple.Clauses.{AtExit}
 use borrow.Fn.Kinds.{Dens, res_t, ended_of}
 use Rattle.words.proofs.OneAnswer.{Says, OneAnswer}
-use Rattle.search.specs.Outcome.{answer_said, seen}
+use Rattle.search.specs.Outcome.{answer_said, call_seen}
 use Rattle.search.proofs.Answers.{seen_only}
 use Rattle.join.specs.Join.{JoinCall, Joins}
 use Rattle.join.proofs.Outcomes.{joins}
@@ -29,5 +29,5 @@ call_of κs a u x = record {
 pub join_says : Says 5 join_kinds.ps join_kinds.r join.Post (λ κs a u x. Joins (call_of κs a u x))
 join_says κs a u x p = joins (call_of κs a u x) p
 
-pub join_only : OneAnswer 5 join_kinds.ps join_kinds.r join.Post (λ κs u x. seen u x.1.1.1.0.now x.1.1.1.1.0.now x.1.1.1.1.1.0.now)
+pub join_only : OneAnswer 5 join_kinds.ps join_kinds.r join.Post (λ κs u x. call_seen u x.1.1.1.0.now x.1.1.1.1.0.now x.1.1.1.1.1.0.now)
 join_only κs a u v x y p q = seen_only (p ∙ sym q)

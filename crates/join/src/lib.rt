@@ -13,7 +13,7 @@ use entries::WIDTH;
 use refusal::{Refusal, Rule};
 pub use search::Counted;
 use search::search;
-use tables::check_tables;
+use tables::accept;
 
 // The least work area.
 const WORK: usize = 10240;
@@ -44,7 +44,7 @@ pub fn join(
     ensures { outcome (answer_said result) list.new work.new trail.new
         ≡ join_of k offsets.now codes.now list.old work.old trail.old }
 {
-    let tables = check_tables(k, offsets, codes)?;
+    let tables = accept(k, offsets, codes)?;
     check_rooms(k, list.len(), work.len())?;
     search(usize::from(k), tables, list, work, trail)
 }

@@ -13,16 +13,16 @@ use entries::{Entry, WIDTH, insert, rank_before};
 use refusal::Refusal;
 use site::Context;
 use std::io;
-use tables::{Tables, check_tables};
+use tables::{accept, check_tables};
 use walk::{Fraction, below, meet, shared_count, union_count};
 
 // The paper's number of an answer and the place of its refusal; 0 and 0 where nothing is refused.
-fn number_and_place(told: Result<Tables, Refusal>) -> (u16, usize)
-    ensures number { result.0 ≡ check_number (check_said told.entry) }
-    ensures place { result.1 ≡ check_place (check_said told.entry) }
+fn number_and_place(told: Result<(), Refusal>) -> (u16, usize)
+    ensures number { result.0 ≡ check_number (check_said told) }
+    ensures place { result.1 ≡ check_place (check_said told) }
 {
     match told {
-        Ok(_) => (0, 0),
+        Ok(()) => (0, 0),
         Err(refusal) => (refusal.number(), refusal.place),
     }
 }
@@ -48,7 +48,7 @@ fn say_check(
 
 // The first two contexts of some tables: the places of their first shared code (0 where there is none), shared, union.
 fn say_pair(rt: &impl Print, name: &str, offsets: &[u16], codes: &[u16]) -> io::Result<()> {
-    let Ok(tables) = check_tables(1, offsets, codes) else {
+    let Ok(tables) = accept(1, offsets, codes) else {
         return Ok(());
     };
     if tables.contexts() < 2 {

@@ -47,8 +47,8 @@ module _ {list rest : List ℕ} {size i : ℕ} {old mid : List ℕ} {p q : Pen} 
   left_long : length rest ≡ length list - width * i
   left_long = ap length g.left ∙ length-drop (width * i) list
 
-  -- the next part is an entry's
-  module _ (part left : List ℕ) (e : rest ≡ part ++ left) (l : length part ≡ size) {now : List ℕ} {r : Penned} (w : LinedIf (line_text pair_key part) mid now q r) where
+  -- the next part is an entry's, and a line has the whole part
+  module _ (part left : List ℕ) (e : rest ≡ part ++ left) (l : length part ≡ size) {line : List ℕ} (same : line ≡ part) {now : List ℕ} {r : Penned} (w : LinedIf (line_text pair_key line) mid now q r) where
     abbrev d : Entry
     d = entry_at list 0
 
@@ -62,7 +62,7 @@ module _ {list rest : List ℕ} {size i : ℕ} {old mid : List ℕ} {p q : Pen} 
     cut = sym (take_at part left width long) ∙ ap (take width) (sym e ∙ g.left)
 
     added : Added (entry_text (get_or (entries_in list) i d)) mid now q r
-    added = subst (λ (t : List ℕ). Added t mid now q r) (ap (line_text pair_key) cut ∙ entry_line list (length list / width) i d (omega (arith, inside, length_entries list 0 (length list / width))) (omega arith)) (line_added g.grown.past.fits w)
+    added = subst (λ (t : List ℕ). Added t mid now q r) (ap (line_text pair_key) (same ∙ cut) ∙ entry_line list (length list / width) i d (omega (arith, inside, length_entries list 0 (length list / width))) (omega arith)) (line_added g.grown.past.fits w)
 
     -- one line more
     pub rows_next : {n j : ℕ} → n ≡ size → j ≡ i + 1 → {z : Pen} → r ≡ On z → Rows list left n j old now p z

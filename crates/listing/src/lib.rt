@@ -5,7 +5,7 @@
 
 ghost use Rattle.std.specs.Prelude.{[], ◌≡◌, ◌*◌, ◌≤◌, length};
 ghost use Rattle.words.specs.Words.{padded};
-ghost use Rattle.refusal.specs.Numbers.{number_of};
+ghost use Rattle.refusal.specs.Numbers.{rule_number};
 ghost use Rattle.sheet.specs.Read.{◌then◌};
 ghost use Rattle.sheet.specs.Reading.{read_sheet};
 ghost use Rattle.pen.specs.Lines.{Fits, front_pen};
@@ -153,8 +153,8 @@ pub fn list_sheet(sheet: &[u8], text: &mut [u8]) -> Result<usize, Refusal>
 fn write_refusal(text: &mut [u8], refusal: Refusal) -> usize
     requires zero { text.old ≡ padded page_room [] }
     requires place_short { refusal.place ≤ 65535 }
-    ensures { (result ≡ length (refused_text (number_of refusal.rule) refusal.place))
-        × (text.new ≡ padded page_room (refused_text (number_of refusal.rule) refusal.place)) }
+    ensures { (result ≡ length (refused_text (rule_number refusal.rule) refusal.place))
+        × (text.new ≡ padded page_room (refused_text (rule_number refusal.rule) refusal.place)) }
 {
     let front = Pen {
         place: 0,

@@ -4,7 +4,7 @@
 #![tactic(auto)]
 
 ghost use Rattle.std.specs.Prelude.{List, [], ◌∷◌, ◌≡◌, refl, ℕ, ◌≤◌, Result, Ok, Err, length};
-ghost use Rattle.refusal.specs.Numbers.{number_of};
+ghost use Rattle.refusal.specs.Numbers.{rule_number};
 ghost use Rattle.refusal.specs.declared.Refusal.{Refusal};
 ghost use Rattle.search.specs.Outcome.{answer_said, answer_number, answer_values};
 ghost use Rattle.reader.specs.Reading.{reading_said};
@@ -30,7 +30,7 @@ trait Accepted: Copy {
     fn words(self) -> [u64; 4]
         ensures { result ≡ told (Ok self) };
 
-    ghost refused: { (e : Refusal) → told (Err e) ≡ four_words (number_of e.rule) (e.place ∷ []) };
+    ghost refused: { (e : Refusal) → told (Err e) ≡ four_words (rule_number e.rule) (e.place ∷ []) };
 }
 
 // What a join counts.

@@ -2,10 +2,10 @@
 use Rattle.std.proofs.Common.{◌≡◌, ℕ, cond, nat_eq, refl, sym, ap, ◌∙◌, arith}
 use Rattle.refusal.specs.declared.Rule.{Rule}
 use Rattle.refusal.specs.declared.Rule.TheVariants as rule
-use Rattle.refusal.specs.Numbers.{number_of}
+use Rattle.refusal.specs.Numbers.{rule_number}
 
 -- no rule has the number 0, which says that nothing is refused
-pub number_some : (r : Rule) → number_of r ≡ 0 → ⊥
+pub number_some : (r : Rule) → rule_number r ≡ 0 → ⊥
 number_some rule.Asked e = absurd (omega (arith, e))
 number_some rule.Sizes e = absurd (omega (arith, e))
 number_some rule.Offset e = absurd (omega (arith, e))
@@ -39,7 +39,7 @@ rule_by n =
     (cond (nat_eq n 13) rule.ContextNumber
     rule.ListedEntry))))))))))))
 
-back : (r : Rule) → rule_by (number_of r) ≡ r
+back : (r : Rule) → rule_by (rule_number r) ≡ r
 back rule.Asked = refl
 back rule.Sizes = refl
 back rule.Offset = refl
@@ -56,5 +56,5 @@ back rule.ContextNumber = refl
 back rule.ListedEntry = refl
 
 -- two rules with one number are one rule
-pub number_tells : {r s : Rule} → number_of r ≡ number_of s → r ≡ s
+pub number_tells : {r s : Rule} → rule_number r ≡ rule_number s → r ≡ s
 number_tells {r} {s} e = sym (back r) ∙ ap rule_by e ∙ back s

@@ -1,11 +1,11 @@
 -- What a result says tells the result: its value where the value's words tell it, and its refusal by the number and the place.
 use Rattle.std.proofs.Common.{◌≡◌, ℕ, Result, Ok, Err, ap, ap₂, sym}
 use Rattle.refusal.specs.declared.Refusal.{Refusal}
-use Rattle.refusal.specs.Numbers.{number_of, said}
+use Rattle.refusal.specs.Numbers.{rule_number, said}
 use Rattle.refusal.proofs.Numbers.{number_tells}
 
 -- two refusals with one number and one place are one refusal
-pub same_refusal : (r s : Refusal) → number_of r.rule ≡ number_of s.rule → r.place ≡ s.place → r ≡ s
+pub same_refusal : (r s : Refusal) → rule_number r.rule ≡ rule_number s.rule → r.place ≡ s.place → r ≡ s
 same_refusal r s n p = ap₂ (λ rule place. record { rule = rule; place = place }) (number_tells n) p
 
 -- the words of values and of refusals tell them apart

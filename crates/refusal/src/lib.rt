@@ -3,7 +3,7 @@
 #![tactic(auto)]
 
 ghost use Rattle.std.specs.Prelude.{◌≡◌};
-ghost use Rattle.refusal.specs.Numbers.{number_of};
+ghost use Rattle.refusal.specs.Numbers.{rule_number};
 
 // A rule of the paper, with its number. 14 to 16 are not given.
 #[derive(Clone, Copy, Debug, PartialEq, Eq)]
@@ -32,7 +32,7 @@ pub struct Refusal {
 }
 
 impl From<Rule> for u16 {
-    ghost from_gives = { λ rule n. n ≡ number_of rule };
+    ghost from_gives = { λ rule n. n ≡ rule_number rule };
 
     fn from(rule: Rule) -> u16 {
         rule as u16
@@ -50,7 +50,7 @@ impl Refusal {
 
     // The paper's number of the rule.
     pub fn number(self) -> u16
-        ensures { result ≡ number_of self.rule }
+        ensures { result ≡ rule_number self.rule }
     {
         u16::from(self.rule)
     }

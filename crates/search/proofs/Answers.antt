@@ -9,7 +9,7 @@ use Rattle.std.specs.Prelude.{Result}
 use Rattle.refusal.specs.declared.Refusal.{Refusal}
 use Rattle.refusal.proofs.Said.{Telling, said_tells}
 use Rattle.search.specs.declared.Counted.{Counted}
-use Rattle.search.specs.Outcome.{Outcome, outcome, seen, answer_said, answer_number, answer_values, Tells}
+use Rattle.search.specs.Outcome.{Outcome, outcome, call_seen, answer_said, answer_number, answer_values, Tells}
 use Rattle.search.specs.Answer.{Answer}
 use Rattle.search.specs.Answer as answer
 
@@ -49,5 +49,5 @@ pub answer_tells : (u v : Result Counted Refusal) → answer_said u ≡ answer_s
 answer_tells u v e = said_tells answers_tell u v e
 
 -- one outcome is of one result
-pub seen_only : {u v : Result Counted Refusal} {l m w x t y : List ℕ} → outcome (answer_said u) l w t ≡ outcome (answer_said v) m x y → seen u l w t ≡ seen v m x y
+pub seen_only : {u v : Result Counted Refusal} {l m w x t y : List ℕ} → outcome (answer_said u) l w t ≡ outcome (answer_said v) m x y → call_seen u l w t ≡ call_seen v m x y
 seen_only {u} {v} e = ap₂ (λ r o. (r, o)) (answer_tells u v (ap (λ (o : Outcome). o.answer) e)) e

@@ -58,3 +58,7 @@ module _ {site : Site} {k : ℕ} {list buffer : List ℕ} {r : Answer} (w : Sear
         let i : 2 * m ≡ length (met_words k site) = omega (arith, n, trail_length (trail_of in_use site k), trail_met in_use site k) in
         let b : buffer' ≡ padded (length buffer₀) (met_words k site) = cut ∙ begins_zeroed buffer (met_words k site) i (w.trailed h) ∙ ap (λ (i : ℕ). padded i (met_words k site)) lb in
         rw (le-ltb (length buffer₀) (trail_need k site) t) (λ i. record { answer = q i; list = l i; work = cleared i; trail = b i })
+
+  -- the counted pairs are on the trail
+  pub counted_room : {f e m : ℕ} → r ≡ answer.Listed f e m → 2 * m ≤ length buffer
+  counted_room {f} {e} {m} z = let h = counted_fits z in let n : m ≡ met in_use site k = cc (z, w.told h) in omega (arith, h, n)

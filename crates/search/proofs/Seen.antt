@@ -5,14 +5,27 @@ use mathlib.Core.List.Memᴰ.{of_map}
 use mathlib.Core.Path.{◌≡◌, sym, ap, ◌∙◌}
 use Prim.Native.Nat.{ℕ, ◌+◌, ◌*◌, ◌≤◌, ◌<◌}
 use native.Mathlib.Omega.{arith}
+use lib.Dec.{ltb}
 use lib.ListN.{length}
+use Rattle.order.proofs.Lists.{cases}
 use Rattle.site.specs.Site.{Site, Pair}
+use Rattle.site.specs.Events.{pair_of}
 use Rattle.site.specs.Tables.{site_of}
+use Rattle.site.specs.declared.Context.{Context}
 use Rattle.tables.specs.Sound.{Sound}
 use Rattle.tables.proofs.Sound.{contexts_are}
 use Rattle.marks.specs.Marks.{marks_of, with_mark, is_marked}
 use Rattle.marks.proofs.Marked.{marks_more, marked_in}
-use Rattle.search.specs.Search.{most, pair_words, pairs_part, pair_number, Seen, MetBefore, Noted}
+use Rattle.search.specs.Search.{most, pair_words, context_is, pairs_part, pair_number, Seen, MetBefore, Noted}
+
+-- the number of the pair of two of few contexts
+module _ (a b : Context) where
+  pair_inside : (n : ℕ) → a.0 < n → b.0 < n → ((pair_of (context_is a) (context_is b)).lower < n) × ((pair_of (context_is a) (context_is b)).higher < n)
+  unfolding pair_of
+  pair_inside n h k = cases (ltb a.0 b.0) (λ t. rw t (h, k)) (λ f. rw f (k, h))
+
+  pub number_inside : a.0 < most → b.0 < most → pair_number (pair_of (context_is a) (context_is b)) < 16 * pair_words
+  number_inside h k = omega (arith, (pair_inside most h k).0, (pair_inside most h k).1)
 
 -- two pairs of few contexts have two numbers
 number_apart : (p q : Pair) → p.lower < most → p.higher < most → q.lower < most → q.higher < most → pair_number p ≡ pair_number q → p ≡ q
@@ -26,14 +39,14 @@ module _ {os cs : List ℕ} (s : Sound os cs) (p : Pair) (b : (p.lower + 1 < len
   pub few_inside : (p.lower < most) × (p.higher < most)
   few_inside = (omega (arith, b.0, contexts_are s), omega (arith, b.1, contexts_are s))
 
-  number_inside : pair_number p < 16 * pair_words
-  number_inside = omega (arith, few_inside.0, few_inside.1)
+  number_small : pair_number p < 16 * pair_words
+  number_small = omega (arith, few_inside.0, few_inside.1)
 
   -- a mark tells that it was met
   pub seen_told : (work : List ℕ) → is_marked (pairs_part work) (pair_number p) ≡ true → MetBefore (site_of os cs) p work
   seen_told work t pairs proper seen =
       let t' : is_marked (marks_of pair_words (map pair_number pairs)) (pair_number p) ≡ true = rw (seen few) at t in
-      let m = of_map pair_number pairs (marked_in pair_words (map pair_number pairs) (pair_number p) number_inside t') in
+      let m = of_map pair_number pairs (marked_in pair_words (map pair_number pairs) (pair_number p) number_small t') in
       let q = m.0 in
       let share = proper.share q m.1 in
       let same : q ≡ p = number_apart q p (omega (arith, share.rising, share.inside, few)) (omega (arith, share.inside, few)) few_inside.0 few_inside.1 m.2 in
@@ -43,7 +56,7 @@ module _ {os cs : List ℕ} (s : Sound os cs) (p : Pair) (b : (p.lower + 1 < len
   pub seen_more : (work work' : List ℕ) → pairs_part work' ≡ with_mark (pairs_part work) (pair_number p) → Noted (site_of os cs) p work work'
   seen_more work work' e pairs seen h =
       e ∙ ap (λ (l : List ℕ). with_mark l (pair_number p)) (seen h)
-      ∙ marks_more (map pair_number pairs) (pair_number p) pair_words number_inside
+      ∙ marks_more (map pair_number pairs) (pair_number p) pair_words number_small
       ∙ ap (marks_of pair_words) (sym (map-append pair_number pairs (p ∷ [])))
 
 -- among many contexts no pair has a mark

@@ -19,5 +19,5 @@ abbrev pub shares : Crossing → ℕ
 shares x = shared_here (the_site x.tables) x.event.context x.event.place x.other
 
 -- their pair, if they do; else none
-abbrev pub met : Crossing → List Pair
-met x = met_with (the_site x.tables) x.event.context x.event.place x.other
+abbrev pub met_pair : Crossing → List Pair
+met_pair x = met_with (the_site x.tables) x.event.context x.event.place x.other

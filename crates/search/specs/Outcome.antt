@@ -37,8 +37,8 @@ abbrev pub outcome : Answer → List ℕ → List ℕ → List ℕ → Outcome
 outcome r list work trail = record { answer = r; list = list; work = work; trail = trail }
 
 -- what is seen of a call: its result, and its outcome
-abbrev pub seen : Result Counted Refusal → List ℕ → List ℕ → List ℕ → Result Counted Refusal × Outcome
-seen r list work trail = (r, outcome (answer_said r) list work trail)
+abbrev pub call_seen : Result Counted Refusal → List ℕ → List ℕ → List ℕ → Result Counted Refusal × Outcome
+call_seen r list work trail = (r, outcome (answer_said r) list work trail)
 
 -- a buffer as long, of zeros
 abbrev pub zeros : List ℕ → List ℕ

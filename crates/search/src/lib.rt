@@ -56,9 +56,9 @@ pub struct Counted {
 
 // How many pairs are listed, and how many were met.
 #[derive(Clone, Copy)]
-struct Counts {
-    found: usize,
-    met: usize,
+pub struct Counts {
+    pub found: usize,
+    pub met: usize,
 }
 
 // An event's turn so far: the counts, and whether the codes of its context are marked.
@@ -70,15 +70,15 @@ struct Progress {
 
 // Two contexts, the one with the smaller number first.
 #[derive(Clone, Copy)]
-struct TwoContexts {
-    lower: Context,
-    higher: Context,
+pub struct TwoContexts {
+    pub lower: Context,
+    pub higher: Context,
 }
 
 // An event, and another context that has its code.
 #[derive(Clone, Copy)]
-struct Crossing<'a> {
-    tables: Tables<'a>,
+struct Crossing<'o, 'c> {
+    tables: Tables<'o, 'c>,
     event: Event,
     code: u16,
     other: Context,
@@ -123,8 +123,8 @@ fn lay_marks(tables: Tables, work: &mut [u16], c: Context)
     mark(&mut work[AGENDA_END..MARKS_END], tables.context(c));
 }
 
-impl Crossing<'_> {
-    ghost use Rattle.search.specs.Crossings.{the_pair, meets, shares, met};
+impl Crossing<'_, '_> {
+    ghost use Rattle.search.specs.Crossings.{the_pair, meets, shares, met_pair};
 
     // The pair of its contexts.
     #[tactic(auto, using(crate::proofs::Steps::event_inside, crate::proofs::Steps::beside_inside), unfolding(site::specs::Events::pair_of))]
@@ -249,7 +249,7 @@ impl Crossing<'_> {
         requires ordered { Ordered list.old progress.counts.found }
         requires wide { Wide work.old }
         requires laid_before { Laid (the_site self.tables) self.event.context progress.marked work.old }
-        ensures meets { Meets (the_site self.entry.tables) k (met self.entry)
+        ensures meets { Meets (the_site self.entry.tables) k (met_pair self.entry)
             list.old work.old trail.old progress.counts
             list.new work.new trail.new result.counts }
         ensures work_unchanged { agenda_part work.new ≡ agenda_part work.old }

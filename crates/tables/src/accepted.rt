@@ -7,13 +7,13 @@ use site::Context;
 
 // Offsets and codes of a site, as lent.
 #[derive(Clone, Copy)]
-pub struct Tables<'a> {
-    pub offsets: &'a [u16],
-    pub codes: &'a [u16],
+pub struct Tables<'o, 'c> {
+    pub offsets: &'o [u16],
+    pub codes: &'c [u16],
     pub ghost sound: { Sound offsets.now codes.now },
 }
 
-impl<'a> Tables<'a> {
+impl<'c> Tables<'_, 'c> {
     ghost use Rattle.tables.specs.Accepted.{the_site};
 
     // How many contexts they cut.
@@ -24,7 +24,7 @@ impl<'a> Tables<'a> {
     }
 
     // The codes of a context: a part of the lent codes, handed back to the caller.
-    pub fn context(self, c: Context) -> &'a [u16]
+    pub fn context(self, c: Context) -> &'c [u16]
         requires { c.0 + 1 < length self.offsets.now }
         ensures { result.now ≡ codes_of (the_site self.entry) c.0 }
     {

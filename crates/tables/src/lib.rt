@@ -112,12 +112,23 @@ fn check_sizes(k: u16, offsets_len: usize, codes_len: usize) -> Result<(), Refus
 }
 
 // The checks of k and the tables in their order: 1, 2, 3, then 4 and 5 together.
-pub fn check_tables<'a>(k: u16, offsets: &'a [u16], codes: &'a [u16]) -> Result<Tables<'a>, Refusal>
-    ensures value { check_said result ≡ tables_check k offsets.now codes.now }
-    ensures accepted { IfOk result (λ tables. (tables.offsets.now ≡ offsets.now) × (tables.codes.now ≡ codes.now)) }
+pub fn check_tables(k: u16, offsets: &[u16], codes: &[u16]) -> Result<(), Refusal>
+    ensures { check_said result ≡ tables_check k offsets.now codes.now }
 {
     check_sizes(k, offsets.len(), codes.len())?;
     check_offsets(offsets, codes.len())?;
-    check_codes(offsets, codes)?;
+    check_codes(offsets, codes)
+}
+
+// The tables that pass these checks, lent as long as their parts are in use; or what refuses them.
+pub fn accept<'o, 'c>(
+    k: u16,
+    offsets: &'o [u16],
+    codes: &'c [u16],
+) -> Result<Tables<'o, 'c>, Refusal>
+    ensures value { check_said result ≡ tables_check k offsets.now codes.now }
+    ensures accepted { IfOk result (λ tables. (tables.offsets.now ≡ offsets.now) × (tables.codes.now ≡ codes.now)) }
+{
+    check_tables(k, offsets, codes)?;
     Ok(Tables { offsets, codes })
 }

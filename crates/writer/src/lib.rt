@@ -48,7 +48,7 @@ fn sheet_lines(text: &mut [u8], k: u16, tables: Tables) -> Option<Pen>
 pub fn write(k: u16, offsets: &[u16], codes: &[u16], text: &mut [u8]) -> Result<usize, Refusal>
     ensures { Writes k offsets.now codes.now text.old (writing_said result) text.new }
 {
-    let tables = tables::check_tables(k, offsets, codes)?;
+    let tables = tables::accept(k, offsets, codes)?;
     let Some(pen) = sheet_lines(text, k, tables) else {
         words::zero_from(text, 0);
         return Err(Refusal::at(Rule::TextRoom, 0));
