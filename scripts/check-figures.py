@@ -11,8 +11,8 @@ import sys
 from pathlib import Path
 
 PAGES = ("README.md", "CONTRIBUTING.md", "CHANGELOG.md", "docs/LESSON.md", "docs/CATALOGUES.md", "docs/TWO-FINGERS.md",
-         "docs/DECISIONS.md", "docs/PROMISES.md", "docs/BENCHMARKS.md", "docs/PORT.md", "docs/DESIGN-PASS.md", "examples/refused/README.md",
-         "tests/README.md", "scripts/README.md")
+         "docs/DECISIONS.md", "docs/PROMISES.md", "docs/BENCHMARKS.md", "docs/PORT.md", "docs/DESIGN-PASS.md", "docs/LOOK-BACK.md",
+         "examples/refused/README.md", "tests/README.md", "scripts/README.md")
 # What a page may name although it is made only later, or stands for any name.
 MADE = ("target/", "crates/NAME", "crates/*", "docs/landings", "examples/refused/NAME")
 

@@ -2,7 +2,7 @@
 -- gives the same list each time, one leaves its buffers, one invents its counts. Like the call, a version is asked for 16-bit words alone.
 use mathlib.Core.List.{List, [], ◌∷◌}
 use mathlib.Core.Logic.{◌⊎◌, ⊎_elim}
-use mathlib.Core.Path.{◌≡◌, sym, ap, subst, ◌∙◌}
+use mathlib.Core.Path.{◌≡◌, sym, ap, ◌∙◌}
 use Prim.Native.Nat.{ℕ, zero, suc, ◌*◌, ◌≤◌}
 use native.Mathlib.Nat.{le_of_eq}
 use native.Mathlib.Omega.{arith}
@@ -23,8 +23,8 @@ use Rattle.search.specs.declared.Counted.{Counted}
 use Rattle.search.specs.Outcome.{answer_said, Tells, Outcome, outcome}
 use Rattle.search.proofs.Answers.{tells_refused, tells_listed}
 use Rattle.search.specs.Answer.{Answer, Listed, Refused}
-use Rattle.join.proofs.Outcomes.{listed_only}
-use Rattle.join.proofs.Only.{join_says}
+use Rattle.join.specs.Join.{JoinCall, join_of}
+use Rattle.join.proofs.Outcomes.{joins, listed_only}
 use Rattle.join.proofs.join.Kinds as join_kinds
 use Rattle.join.proofs.join.Reads as join
 use Rattle.join.proofs.Examples.{Case, case, Told, junk_list, junk_trail, table, asked, told, examples}
@@ -68,15 +68,37 @@ args_of κs i = (i.k, (lent i.offsets, (lent i.codes, (lent_mut i.list, (lent_mu
 abbrev pub exit_of : (κs : Lfts 5) → Given → Outcome → AtExit (ended_of 5 join_kinds.ps join_kinds.r) κs
 exit_of κs i o = (i.k, (lent i.offsets, (lent i.codes, (lent_mut o.list, (lent_mut o.work, (lent_mut o.trail, tt))))))
 
--- it meets the contract in the code: its answer is what some result says, and that result and its buffers meet it
-abbrev pub MeetsContract : Version → Type 0
-MeetsContract f =
-    (κs : Lfts 5) (i : Given) → InWords i
-    → (r : Result Counted Refusal) × (answer_said r ≡ (f i).answer) × join.Post κs (args_of κs i) r (exit_of κs i (f i))
+-- what the contract says of a call: its answer, in the paper's words, and its buffers are the outcome
+abbrev pub Meets : Given → Outcome → Type 0
+Meets i o = outcome o.answer o.list o.work o.trail ≡ join_of i.k i.offsets i.codes i.list i.work i.trail
 
--- lifetimes of five lent slices: which they are makes no difference
-nowhere : Lfts 5
-nowhere = ([], ([], ([], ([], ([], tt)))))
+-- it is the contract as it stands in the code: a result and buffers that meet that meet it, and the other way
+pub contract_meets : (κs : Lfts 5) (i : Given) (r : Result Counted Refusal) (o : Outcome) → answer_said r ≡ o.answer
+    → join.Post κs (args_of κs i) r (exit_of κs i o) → Meets i o
+contract_meets κs i r o e p = ap (λ (a : Answer). outcome a o.list o.work o.trail) (sym e) ∙ p
+
+pub meets_contract : (κs : Lfts 5) (i : Given) (r : Result Counted Refusal) (o : Outcome) → answer_said r ≡ o.answer
+    → Meets i o → join.Post κs (args_of κs i) r (exit_of κs i o)
+meets_contract κs i r o e m = ap (λ (a : Answer). outcome a o.list o.work o.trail) e ∙ m
+
+-- the call of a version
+abbrev call_with : Given → Outcome → JoinCall
+call_with i o = record {
+  k = i.k;
+  offsets = i.offsets;
+  codes = i.codes;
+  list = i.list;
+  work = i.work;
+  trail = i.trail;
+  answer = o.answer;
+  list' = o.list;
+  work' = o.work;
+  trail' = o.trail;
+}
+
+-- a version meets it on every call
+abbrev pub MeetsContract : Version → Type 0
+MeetsContract f = (i : Given) → InWords i → Meets i (f i)
 
 -- ---- two cases of the table
 
@@ -140,10 +162,7 @@ module _ (f : Version) (meets : MeetsContract f) where
   -- on a case of the table a version does what the documents tell
   as_told : (c : Case) → InWords (given c) → asked area c ≡ told area c → f (given c) ≡ (told area c).outcome
   unfolding asked
-  as_told c w e =
-      let m = meets nowhere (given c) w in
-      let o = f (given c) in
-      ap (λ (a : Answer). outcome a o.list o.work o.trail) (sym m.1) ∙ m.2 ∙ ap (λ (t : Told). t.outcome) e
+  as_told c w e = meets (given c) w ∙ ap (λ (t : Told). t.outcome) e
 
   -- it refuses everything: not P9
   pub refuses_everything : ((i : Given) → InWords i → (n : ℕ) × (p : ℕ) × Tells (f i).answer n (p ∷ [])) → ⊥
@@ -173,11 +192,9 @@ module _ (f : Version) (meets : MeetsContract f) where
   pub invents_counts : (i : Given) → InWords i → (f₁ e m : ℕ) → Tells (f i).answer 0 (f₁ ∷ e ∷ m ∷ [])
       → ((e ≡ events in_use (site_of i.offsets i.codes) i.k → ⊥) ⊎ (m ≡ met in_use (site_of i.offsets i.codes) i.k → ⊥)) → ⊥
   invents_counts i w f₁ e m t =
-      let k = meets nowhere i w in
-      let j = join_says nowhere (args_of nowhere i) k.0 (exit_of nowhere i (f i)) k.2 in
-      let told = subst (λ (a : Answer). Tells a 0 (f₁ ∷ e ∷ m ∷ [])) (sym k.1) t in
-      let a = listed_only j (tells_listed _ told) in
-      let same = sym told.1 ∙ (j.found a.0 a.1).told.1 in
+      let j = joins (call_with i (f i)) (meets i w) in
+      let a = listed_only j (tells_listed _ t) in
+      let same = sym t.1 ∙ (j.found a.0 a.1).told.1 in
       let x : e ≡ events in_use (site_of i.offsets i.codes) i.k = cc same in
       let y : m ≡ met in_use (site_of i.offsets i.codes) i.k = cc same in
       ⊎_elim (λ n. n x) (λ n. n y)
