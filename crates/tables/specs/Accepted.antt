@@ -9,7 +9,7 @@ use Rattle.tables.specs.declared.accepted.Tables.{Tables}
 abbrev pub the_site : Tables → Site
 the_site tables = site_in tables.offsets tables.codes
 
--- the words of accepted tables, offsets and codes, or the refusal: what can be read from a check's answer
+-- the words of accepted tables, offsets and codes, or the refusal: what can be read from the answer that gives them
 abbrev pub words_or_refusal : Result Tables Refusal → Result (List ℕ × List ℕ) Refusal
 words_or_refusal (Ok tables) = Ok (tables.offsets.now, tables.codes.now)
 words_or_refusal (Err refusal) = Err refusal
