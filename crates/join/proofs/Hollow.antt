@@ -68,18 +68,18 @@ args_of κs i = (i.k, (lent i.offsets, (lent i.codes, (lent_mut i.list, (lent_mu
 abbrev pub exit_of : (κs : Lfts 5) → Given → Outcome → AtExit (ended_of 5 join_kinds.ps join_kinds.r) κs
 exit_of κs i o = (i.k, (lent i.offsets, (lent i.codes, (lent_mut o.list, (lent_mut o.work, (lent_mut o.trail, tt))))))
 
--- what the contract says of a call: its answer, in the paper's words, and its buffers are the outcome
-abbrev pub Meets : Given → Outcome → Type 0
-Meets i o = outcome o.answer o.list o.work o.trail ≡ join_of i.k i.offsets i.codes i.list i.work i.trail
+-- what is answered, in the paper's words, and left of the buffers is the outcome that the contract has for the call
+abbrev pub HasOutcome : Given → Outcome → Type 0
+HasOutcome i o = outcome o.answer o.list o.work o.trail ≡ join_of i.k i.offsets i.codes i.list i.work i.trail
 
--- it is the contract as it stands in the code: a result and buffers that meet that meet it, and the other way
-pub contract_meets : (κs : Lfts 5) (i : Given) (r : Result Counted Refusal) (o : Outcome) → answer_said r ≡ o.answer
-    → join.Post κs (args_of κs i) r (exit_of κs i o) → Meets i o
-contract_meets κs i r o e p = ap (λ (a : Answer). outcome a o.list o.work o.trail) (sym e) ∙ p
+-- it is the contract as it stands in the code: whoever meets the one with a result that says the answer meets the other
+pub contract_outcome : (κs : Lfts 5) (i : Given) (r : Result Counted Refusal) (o : Outcome) → answer_said r ≡ o.answer
+    → join.Post κs (args_of κs i) r (exit_of κs i o) → HasOutcome i o
+contract_outcome κs i r o e p = ap (λ (a : Answer). outcome a o.list o.work o.trail) (sym e) ∙ p
 
-pub meets_contract : (κs : Lfts 5) (i : Given) (r : Result Counted Refusal) (o : Outcome) → answer_said r ≡ o.answer
-    → Meets i o → join.Post κs (args_of κs i) r (exit_of κs i o)
-meets_contract κs i r o e m = ap (λ (a : Answer). outcome a o.list o.work o.trail) e ∙ m
+pub outcome_contract : (κs : Lfts 5) (i : Given) (r : Result Counted Refusal) (o : Outcome) → answer_said r ≡ o.answer
+    → HasOutcome i o → join.Post κs (args_of κs i) r (exit_of κs i o)
+outcome_contract κs i r o e m = ap (λ (a : Answer). outcome a o.list o.work o.trail) e ∙ m
 
 -- the call of a version
 abbrev call_with : Given → Outcome → JoinCall
@@ -98,7 +98,7 @@ call_with i o = record {
 
 -- a version meets it on every call
 abbrev pub MeetsContract : Version → Type 0
-MeetsContract f = (i : Given) → InWords i → Meets i (f i)
+MeetsContract f = (i : Given) → InWords i → HasOutcome i (f i)
 
 -- ---- two cases of the table
 

@@ -18,14 +18,18 @@ use Rattle.marks.specs.Marks.{marks_of, with_mark, is_marked}
 use Rattle.marks.proofs.Marked.{marks_more, marked_in}
 use Rattle.search.specs.Search.{most, pair_words, context_is, pairs_part, pair_number, Seen, MetBefore, Noted}
 
--- the number of the pair of two of few contexts
+-- the number of a pair of few contexts
+number_small : (p : Pair) → p.lower < most → p.higher < most → pair_number p < 16 * pair_words
+number_small p h k = omega (arith, h, k)
+
+-- in whichever order they are given
 module _ (a b : Context) where
   pair_inside : (n : ℕ) → a.0 < n → b.0 < n → ((pair_of (context_is a) (context_is b)).lower < n) × ((pair_of (context_is a) (context_is b)).higher < n)
   unfolding pair_of
   pair_inside n h k = cases (ltb a.0 b.0) (λ t. rw t (h, k)) (λ f. rw f (k, h))
 
   pub number_inside : a.0 < most → b.0 < most → pair_number (pair_of (context_is a) (context_is b)) < 16 * pair_words
-  number_inside h k = omega (arith, (pair_inside most h k).0, (pair_inside most h k).1)
+  number_inside h k = let inside = pair_inside most h k in number_small (pair_of (context_is a) (context_is b)) inside.0 inside.1
 
 -- two pairs of few contexts have two numbers
 number_apart : (p q : Pair) → p.lower < most → p.higher < most → q.lower < most → q.higher < most → pair_number p ≡ pair_number q → p ≡ q
@@ -39,14 +43,14 @@ module _ {os cs : List ℕ} (s : Sound os cs) (p : Pair) (b : (p.lower + 1 < len
   pub few_inside : (p.lower < most) × (p.higher < most)
   few_inside = (omega (arith, b.0, contexts_are s), omega (arith, b.1, contexts_are s))
 
-  number_small : pair_number p < 16 * pair_words
-  number_small = omega (arith, few_inside.0, few_inside.1)
+  number_few : pair_number p < 16 * pair_words
+  number_few = number_small p few_inside.0 few_inside.1
 
   -- a mark tells that it was met
   pub seen_told : (work : List ℕ) → is_marked (pairs_part work) (pair_number p) ≡ true → MetBefore (site_of os cs) p work
   seen_told work t pairs proper seen =
       let t' : is_marked (marks_of pair_words (map pair_number pairs)) (pair_number p) ≡ true = rw (seen few) at t in
-      let m = of_map pair_number pairs (marked_in pair_words (map pair_number pairs) (pair_number p) number_small t') in
+      let m = of_map pair_number pairs (marked_in pair_words (map pair_number pairs) (pair_number p) number_few t') in
       let q = m.0 in
       let share = proper.share q m.1 in
       let same : q ≡ p = number_apart q p (omega (arith, share.rising, share.inside, few)) (omega (arith, share.inside, few)) few_inside.0 few_inside.1 m.2 in
@@ -56,7 +60,7 @@ module _ {os cs : List ℕ} (s : Sound os cs) (p : Pair) (b : (p.lower + 1 < len
   pub seen_more : (work work' : List ℕ) → pairs_part work' ≡ with_mark (pairs_part work) (pair_number p) → Noted (site_of os cs) p work work'
   seen_more work work' e pairs seen h =
       e ∙ ap (λ (l : List ℕ). with_mark l (pair_number p)) (seen h)
-      ∙ marks_more (map pair_number pairs) (pair_number p) pair_words number_small
+      ∙ marks_more (map pair_number pairs) (pair_number p) pair_words number_few
       ∙ ap (marks_of pair_words) (sym (map-append pair_number pairs (p ∷ [])))
 
 -- among many contexts no pair has a mark
